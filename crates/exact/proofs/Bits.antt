@@ -1,0 +1,48 @@
+-- How many bits a significand has, against powers of two.
+use mathlib.Core.Path.{_≡_, subst}
+use mathlib.Core.Logic.{_⊎_, inl, inr}
+use Prim.Native.Nat.{ℕ, max, _+_, _-_, _*_, _^_, _≤_, _<_}
+use native.Mathlib.Nat.{lt-of-lt-of-le, le-trans}
+use native.Mathlib.Omega.{arith}
+use lib.Count.{leadingZeros, leading-length}
+use Rattle.exact.specs.declared.form.Form.{Form}
+use Rattle.exact.specs.Value.{Value}
+use Rattle.exact.proofs.Squares.{two-le, two-half, le-unless}
+
+-- k has m bits
+pub record Has-bits (k m : ℕ) : Type 0 where
+  pub most : k < 2 ^ m
+  pub least : 2 ^ m ≤ 2 * k + 1
+
+pub bits-are : (k : ℕ) → k < 2 ^ 64 → Has-bits k (64 - leadingZeros 64 k)
+bits-are k h =
+    let l = leading-length 64 k h in
+    let e : l .0 ≡ 64 - leadingZeros 64 k = omega (arith, l .1) in
+    subst (Has-bits k) e (record { most = l .2; least = l .3 })
+
+module _ (k m : ℕ) (h : Has-bits k m) where
+  -- the leading bit
+  leading : 1 ≤ m → 2 ^ (m - 1) ≤ k
+  leading g = omega (arith, h .least, two-half m g)
+
+  pub short-of : (p : ℕ) → m ≤ p → k < 2 ^ p
+  short-of p g = lt-of-lt-of-le (h .most) (two-le m p g)
+
+  pub bits-most : (p : ℕ) → k < 2 ^ p → m ≤ p
+  bits-most p g = le-unless m p (λ (b : p < m). let i : p ≤ m - 1 = omega arith in omega (arith, leading (omega arith), two-le p (m - 1) i, g))
+
+  pub full-of : (p : ℕ) → max p 1 ≤ m → 2 ^ (p - 1) ≤ k
+  full-of p g = let i : p - 1 ≤ m - 1 = omega arith in le-trans (two-le (p - 1) (m - 1) i) (leading (omega arith))
+
+  pub bits-least : (p : ℕ) → 2 ^ (p - 1) ≤ k → max p 1 ≤ m
+  bits-least p g = le-unless (max p 1) m (λ (b : m < max p 1). let i : m ≤ p - 1 = omega arith in omega (arith, two-le m (p - 1) i, h .most, g))
+
+-- the bits that tell a value
+pub value-by-bits : (form : Form) (k e m : ℕ) → Has-bits k m → e ≤ form .span → m ≤ form .precision → (e ≡ form .span → k ≤ form .largest)
+    → (e ≡ 0) ⊎ (max (form .precision) 1 ≤ m) → Value form k e
+value-by-bits form k e m h within short capped full = record {
+  within = within;
+  short = short-of k m h (form .precision) short;
+  capped = capped;
+  full = λ g. elim full [ inl z ↦ absurd (omega arith) | inr b ↦ full-of k m h (form .precision) b ];
+}

@@ -1,0 +1,5 @@
+use Rattle.exact.proofs.Values.{length-is-nearest, nearest-unique, length-is-value, length-is-beyond}
+use Rattle.exact.proofs.theorems.length_is_nearest.Needs as need
+
+pub returns : need.returns
+returns c = record { nearest = length-is-nearest; only = nearest-unique; value = length-is-value; beyond = length-is-beyond }

@@ -1,0 +1,4 @@
+pub mod Value
+pub mod Root
+pub mod Length
+pub mod Nearest
