@@ -1,0 +1,5 @@
+//! Number forms: what each bit pattern means, and the one pattern of each value.
+pub mod binary;
+pub mod number_form;
+pub mod reading;
+pub mod thousandths;
