@@ -18,6 +18,9 @@ squares-le a b h = mul-le-mul h h
 pub le-unless : (a b : ℕ) → (b < a → ⊥) → a ≤ b
 le-unless a b h = let p : a < b + 1 = lt-of-not-le (λ (g : b + 1 ≤ a). h (omega arith)) in omega arith
 
+pub lt-unless : (a b : ℕ) → (b ≤ a → ⊥) → a < b
+lt-unless a b h = lt-of-not-le h
+
 pub lt-or-le : (a b : ℕ) → (a < b) ⊎ (b ≤ a)
 lt-or-le a b = elim (eq-zero-or-pos (b - a)) [ inl z ↦ inr (omega arith) | inr p ↦ inl (omega arith) ]
 

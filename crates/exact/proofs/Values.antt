@@ -28,7 +28,7 @@ length-normal p n k e P (kept u h s) = record { short = s; full = significand-fu
 length-normal p n k f P (carried u h) = record { short = omega (arith, two-half p P, pow-pos (p - 1)); full = λ _. le-refl _ }
 
 -- of two such numbers, one with a larger exponent is larger
-larger : (p k e j f : ℕ) → 1 ≤ p → Normal p k e → Normal p j f → e < f → units k e < units j f
+pub larger : (p k e j f : ℕ) → 1 ≤ p → Normal p k e → Normal p j f → e < f → units k e < units j f
 larger p k e j f P a b h = omega (arith, smaller p k e f P h (a .short), mul-le-mul-right (2 ^ f) (b .full (omega arith)))
 
 -- so their exponents and significands are determined

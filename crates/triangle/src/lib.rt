@@ -1,0 +1,3 @@
+//! The third side of a right triangle, as a pattern of a number form.
+pub mod answer;
+pub mod resultant;
