@@ -1,13 +1,15 @@
--- How many bits a significand has, against powers of two.
-use mathlib.Core.Path.{_≡_, subst}
+-- How many bits a number has, against powers of two.
+use mathlib.Core.Path.{_≡_, sym, subst}
 use mathlib.Core.Logic.{_⊎_, inl, inr}
-use Prim.Native.Nat.{ℕ, max, _+_, _-_, _*_, _^_, _≤_, _<_}
+use Prim.Native.Nat.{ℕ, max, _+_, _-_, _*_, _/_, _^_, _≤_, _<_}
 use native.Mathlib.Nat.{lt-of-lt-of-le, le-trans}
 use native.Mathlib.Omega.{arith}
 use lib.Count.{leadingZeros, leading-length}
 use Rattle.exact.specs.declared.form.Form.{Form}
 use Rattle.exact.specs.Value.{Value}
+use Rattle.exact.specs.Length.{Ulp}
 use Rattle.exact.proofs.Squares.{two-le, two-half, le-unless}
+use Rattle.exact.proofs.Ulps.{four-is}
 
 -- k has m bits
 pub record Has-bits (k m : ℕ) : Type 0 where
@@ -45,4 +47,11 @@ value-by-bits form k e m h within short capped full = record {
   short = short-of k m h (form .precision) short;
   capped = capped;
   full = λ g. elim full [ inl z ↦ absurd (omega arith) | inr b ↦ full-of k m h (form .precision) b ];
+}
+
+-- the bits of a radicand tell the last place of its root
+pub ulp-by-bits : (p n m : ℕ) → Has-bits n m → Ulp p n ((m + 1) / 2 - p)
+ulp-by-bits p n m h = record {
+  fits = subst (λ (x : ℕ). n < x) (sym (four-is (p + ((m + 1) / 2 - p)))) (short-of n m h (2 * (p + ((m + 1) / 2 - p))) (omega arith));
+  least = λ f g. let b : m ≤ 2 * (p + f) = bits-most n m h (2 * (p + f)) (subst (λ (x : ℕ). n < x) (four-is (p + f)) g) in omega arith;
 }

@@ -6,3 +6,4 @@ pub mod Lengths
 pub mod Nearness
 pub mod Values
 pub mod Bits
+pub mod Words

@@ -82,6 +82,11 @@ not-past n e k l a b h =
 pub nearest-whole-unique : (n e k l : ℕ) → Nearest-whole n e k → Nearest-whole n e l → k ≡ l
 nearest-whole-unique n e k l a b = le-antisymm (le-unless k l (not-past n e l k b a)) (le-unless l k (not-past n e k l a b))
 
+-- any floor of twice the root rounds to the rounded root
+pub rounded-by : (n e d : ℕ) (x : Bool) → d * d * 4 ^ e ≤ 4 * n → 4 * n < (d + 1) * (d + 1) * 4 ^ e → (x ≡ true → d * d * 4 ^ e ≡ 4 * n) → (x ≡ false → d * d * 4 ^ e ≡ 4 * n → ⊥)
+    → half-to-even d x ≡ rounded-root n e
+rounded-by n e d x floor next yes-exact not-exact = nearest-whole-unique n e _ _ (rounds-nearest n e d _ floor next (half-rounds d _ x yes-exact not-exact)) (rounded-root-is n e)
+
 -- At the least exponent no root lies halfway, since 4 n is even and the square of an odd number is not; so the
 -- nearest whole number is at most half a unit away: 4 n lies between the squares of 2 k - 1 and 2 k + 1.
 nearest-at-least : (n k : ℕ) → (0 < k → (2 * k - 1) * (2 * k - 1) ≤ 4 * n) → 4 * n ≤ (2 * k + 1) * (2 * k + 1) → Nearest-whole n 0 k

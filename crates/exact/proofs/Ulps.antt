@@ -10,7 +10,7 @@ use lib.Ieee.Digits.{size-lt, size-le}
 use Rattle.exact.specs.Length.{Ulp, Nearest-whole, ulp-exponent}
 use Rattle.exact.proofs.Squares.{le-of-squares, le-unless, four-two, two-le, two-half, square-at}
 
-four-is : (m : ℕ) → 4 ^ m ≡ 2 ^ (2 * m)
+pub four-is : (m : ℕ) → 4 ^ m ≡ 2 ^ (2 * m)
 four-is m = four-two m ∙ sym (pow-add 2 m m) ∙ ap (λ (x : ℕ). 2 ^ x) {x = m + m} {y = 2 * m} (omega arith)
 
 pub ulp-exponent-is : (p n : ℕ) → Ulp p n (ulp-exponent p n)

@@ -1,8 +1,8 @@
-//! From a length to the pattern that answers, in any number form.
+//! The pattern that answers for a root, in any number form.
 ghost use mathlib.Core.Path.{_≡_};
-ghost use Rattle.exact.specs.Value.{Value};
 ghost use Rattle.forms.specs.Encoding.{Encoding, Lawful};
-ghost use Rattle.triangle.specs.Answer.{One-answer};
+ghost use Rattle.triangle.specs.Answer.{One-answer, Answers-root, root-pattern};
+use exact::length::length;
 use forms::number_form::NumberForm;
 
 /// In every lawful form one pattern answers for an outcome: special cases have theirs, a root
@@ -11,10 +11,11 @@ pub fn one_pattern_answers<P>()
     ensures { λ _. ⌜ ((encoding : Encoding P) → Lawful encoding → One-answer encoding) ⌝ }
 {}
 
-/// The pattern of `significand * 2^exponent`, or plus infinity where that is no value of the form.
-pub fn written_or_infinity<F: NumberForm>(significand: u64, exponent: u32) -> F::Pattern
-    ensures value { λ r. ⌜ (Value (F·NumberForm .encoding .form) significand exponent → r ≡ F·NumberForm .encoding .written significand exponent) ⌝ }
-    ensures beyond { λ r. ⌜ ((Value (F·NumberForm .encoding .form) significand exponent → ⊥) → r ≡ F·NumberForm .encoding .plus-infinity) ⌝ }
+/// The pattern that answers for the root of `n`, which counts squares of the form's least unit.
+pub fn root_pattern<F: NumberForm>(n: u64) -> F::Pattern
+    ensures value { λ r. ⌜ r ≡ root-pattern (F·NumberForm .encoding) n ⌝ }
+    ensures nearest { λ r. ⌜ Answers-root (F·NumberForm .encoding) n r ⌝ }
 {
-    F::write(significand, exponent).unwrap_or(F::plus_infinity())
+    let root = length(F::form().precision, n);
+    F::write(root.significand, root.exponent).unwrap_or(F::plus_infinity())
 }

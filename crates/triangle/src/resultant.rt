@@ -2,9 +2,8 @@
 ghost use mathlib.Core.Path.{_≡_};
 ghost use mathlib.Core.List.{[], _∷_};
 ghost use Rattle.forms.specs.Thousandths.{thousandths};
-ghost use Rattle.triangle.specs.Answer.{root-pattern, hypot-pattern, hypot-of, Answers, Answers-root};
-use crate::answer::written_or_infinity;
-use exact::root::nearest_root;
+ghost use Rattle.triangle.specs.Answer.{hypot-pattern, hypot-of, Answers};
+use crate::answer::root_pattern;
 use forms::number_form::NumberForm;
 use forms::reading::Reading;
 use forms::thousandths::Thousandths;
@@ -23,17 +22,7 @@ pub fn resultant(x: u32, y: u32) -> u32
             Thousandths::plus_infinity(),
         (Reading::QuietNan, _) | (_, Reading::QuietNan) => Thousandths::quiet_nan(),
         (Reading::Finite { significand: a, .. }, Reading::Finite { significand: b, .. }) => {
-            whole_root::<ThousandthsForm>(a * a + b * b)
+            root_pattern::<ThousandthsForm>(a * a + b * b)
         }
     }
-}
-
-// The pattern that answers for the root of `n` in a form with one exponent, whose values are whole
-// numbers. Its one caller has such a form.
-fn whole_root<F: NumberForm>(n: u64) -> F::Pattern
-    requires { ⌜ F·NumberForm .encoding .form .span ≡ 0 ⌝ }
-    ensures value { λ r. ⌜ r ≡ root-pattern (F·NumberForm .encoding) n ⌝ }
-    ensures nearest { λ r. ⌜ Answers-root (F·NumberForm .encoding) n r ⌝ }
-{
-    written_or_infinity::<F>(nearest_root(n), 0)
 }

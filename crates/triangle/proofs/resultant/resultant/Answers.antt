@@ -21,6 +21,6 @@ returns-in-Finite-Finite c =
     let s = c .in-Finite-Finite in
     let outcome = finite-sides (c .args .x) (c .args .y) _ _ _ _ _ _ (s .ensures tt) (s .ensures′ tt) in
     record {
-      value = c .whole-root .ensures .value ∙ ap (answer thousandths) (sym outcome);
-      nearest = subst (λ o. Answers thousandths o (c .whole-root .result)) (sym outcome) (c .whole-root .ensures .nearest);
+      value = c .root-pattern .ensures .value ∙ ap (answer thousandths) (sym outcome);
+      nearest = subst (λ o. Answers thousandths o (c .root-pattern .result)) (sym outcome) (c .root-pattern .ensures .nearest);
     }

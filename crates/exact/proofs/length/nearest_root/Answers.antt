@@ -1,5 +1,5 @@
 use Rattle.exact.proofs.Rounding.{nearest-is-floor, nearest-is-next}
-use Rattle.exact.proofs.root.nearest_root.Needs as need
+use Rattle.exact.proofs.length.nearest_root.Needs as need
 
 pub returns-then-residual-floor : need.returns-then-residual-floor
 returns-then-residual-floor c = nearest-is-next (c .args .n) (c .isqrt-floor .result) (c .isqrt-floor .ensures .low-bound) (c .if-residual-floor .taken)

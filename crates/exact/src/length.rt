@@ -1,0 +1,71 @@
+//! The length of a root whose radicand fits one word, by a whole-number root.
+//!
+//! The floor of twice the root, in units of the last place, and whether it is exact tell on which
+//! side of a half the root lies; so the length needs no more than one floor root.
+ghost use mathlib.Core.Path.{_≡_};
+ghost use Prim.Native.Nat.{_^_, _<_, _≤_};
+ghost use Rattle.exact.specs.Length.{Length, half-to-even, rounded-root};
+
+/// The number `significand * 2^exponent`, with the exponent counted from the least one.
+#[derive(Clone, Copy)]
+pub struct Magnitude {
+    pub significand: u64,
+    pub exponent: u32,
+}
+
+/// The root of `n` rounded to `precision` bits, to nearest, ties to even.
+pub fn length(precision: u32, n: u64) -> Magnitude
+    ensures { λ r. ⌜ Length precision n (r .significand) (r .exponent) ⌝ }
+{
+    let bits = 64 - n.leading_zeros();
+    let exponent = bits.div_ceil(2).saturating_sub(precision);
+    let significand = rounded(n, exponent);
+    // One bit too many: the next power of two, one exponent up.
+    if precision < 64 && significand == 1 << precision {
+        Magnitude {
+            significand: 1 << precision.saturating_sub(1),
+            exponent: exponent + 1,
+        }
+    } else {
+        Magnitude {
+            significand,
+            exponent,
+        }
+    }
+}
+
+// The nearest whole number to the root of `n` in units of `2^exponent`.
+fn rounded(n: u64, exponent: u32) -> u64
+    requires { ⌜ exponent ≤ 32 ⌝ }
+    ensures { λ r. ⌜ r ≡ rounded-root n exponent ⌝ }
+{
+    if exponent == 0 {
+        return nearest_root(n);
+    }
+    let dropped = 2 * (exponent - 1);
+    let twice = (n >> dropped).isqrt();
+    round_half(twice, twice * twice << dropped == n)
+}
+
+// The nearest whole number to the root of `n`, which never lies halfway between two.
+fn nearest_root(n: u64) -> u64
+    ensures { λ r. ⌜ r ≡ rounded-root n 0 ⌝ }
+{
+    let floor = n.isqrt();
+    let residual = n - floor * floor;
+    if residual > floor { floor + 1 } else { floor }
+}
+
+// Half of `twice`, or of a little more where that is not exact, to the nearest whole number, at a tie
+// to the even one.
+fn round_half(twice: u64, exact: bool) -> u64
+    requires { ⌜ twice < 2 ^ 63 ⌝ }
+    ensures { λ r. ⌜ r ≡ half-to-even twice exact ⌝ }
+{
+    let floor = twice / 2;
+    if twice % 2 == 0 || exact && floor % 2 == 0 {
+        floor
+    } else {
+        floor + 1
+    }
+}

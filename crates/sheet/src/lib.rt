@@ -1,0 +1,3 @@
+//! Lines of text with patterns in hexadecimal digits, and their answers.
+pub mod hex;
+pub mod pair;
