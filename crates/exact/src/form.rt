@@ -32,3 +32,28 @@ impl Form {
         exponent == 0 || bits >= self.precision.max(1)
     }
 }
+
+#[cfg(test)]
+mod tests {
+    use super::*;
+    use std::test::*;
+
+    #[test]
+    fn edges_of_a_form() -> Result<(), Fail> {
+        let form = Form {
+            precision: 3,
+            least: -2,
+            span: 4,
+            largest: 6,
+        };
+        check(form.contains(0, 0))?;
+        check(form.contains(1, 0))?;
+        check(form.contains(7, 3))?;
+        check(!form.contains(8, 3))?;
+        check(form.contains(4, 1))?;
+        check(!form.contains(3, 1))?;
+        check(form.contains(6, 4))?;
+        check(!form.contains(7, 4))?;
+        check(!form.contains(4, 5))
+    }
+}

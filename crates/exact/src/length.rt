@@ -7,7 +7,7 @@ ghost use Prim.Native.Nat.{_^_, _<_, _≤_};
 ghost use Rattle.exact.specs.Length.{Length, half-to-even, rounded-root};
 
 /// The number `significand * 2^exponent`, with the exponent counted from the least one.
-#[derive(Clone, Copy)]
+#[derive(Clone, Copy, PartialEq, Eq, Debug)]
 pub struct Magnitude {
     pub significand: u64,
     pub exponent: u32,
@@ -67,5 +67,45 @@ fn round_half(twice: u64, exact: bool) -> u64
         floor
     } else {
         floor + 1
+    }
+}
+
+#[cfg(test)]
+mod tests {
+    use super::*;
+    use std::test::*;
+
+    fn magnitude(significand: u64, exponent: u32) -> Magnitude {
+        Magnitude {
+            significand,
+            exponent,
+        }
+    }
+
+    #[test]
+    fn exact_roots() -> Result<(), Fail> {
+        check_eq(length(31, 0), magnitude(0, 0))?;
+        check_eq(length(31, 25), magnitude(5, 0))?;
+        check_eq(length(53, 0xffff_fffe_0000_0001), magnitude(0xffff_ffff, 0))?;
+        check_eq(length(2, 64), magnitude(2, 2))
+    }
+
+    #[test]
+    fn ties_go_to_even() -> Result<(), Fail> {
+        // roots 5, 7 and 11 with two bits: 2.5 goes down, 3.5 carries up, and 2.75 is no tie
+        check_eq(length(2, 25), magnitude(2, 1))?;
+        check_eq(length(2, 49), magnitude(2, 2))?;
+        check_eq(length(2, 121), magnitude(3, 2))?;
+        // one more in the radicand takes the root above the half
+        check_eq(length(2, 26), magnitude(3, 1))
+    }
+
+    #[test]
+    fn halves_never_meet_at_the_least_exponent() -> Result<(), Fail> {
+        // the root of 2 lies below 1.5, that of 3 above
+        check_eq(length(31, 2), magnitude(1, 0))?;
+        check_eq(length(31, 3), magnitude(2, 0))?;
+        check_eq(length(53, u64::MAX), magnitude(0x1_0000_0000, 0))?;
+        check_eq(length(32, u64::MAX), magnitude(0x8000_0000, 1))
     }
 }

@@ -111,3 +111,81 @@ fn read_fields(pattern: u64, exponent_bits: u32, fraction_bits: u32) -> Reading
         Reading::QuietNan
     }
 }
+
+#[cfg(test)]
+mod tests {
+    use super::*;
+    use crate::reading::ReadingDebug;
+    use crate::reading::ReadingPartialEq;
+    use std::test::*;
+
+    fn finite(negative: bool, significand: u64, exponent: u32) -> Reading {
+        Reading::Finite {
+            negative,
+            significand,
+            exponent,
+        }
+    }
+
+    #[test]
+    fn finite_edges() -> Result<(), Fail> {
+        check_eq(Binary64::read(0), finite(false, 0, 0))?;
+        check_eq(Binary64::read(0x8000_0000_0000_0000), finite(true, 0, 0))?;
+        check_eq(Binary64::read(1), finite(false, 1, 0))?;
+        check_eq(
+            Binary64::read(0x0010_0000_0000_0000),
+            finite(false, 1 << 52, 0),
+        )?;
+        check_eq(
+            Binary64::read(0x0020_0000_0000_0000),
+            finite(false, 1 << 52, 1),
+        )?;
+        check_eq(
+            Binary64::read(0xffef_ffff_ffff_ffff),
+            finite(true, (1 << 53) - 1, 2045),
+        )?;
+        check_eq(Binary32::read(0x007f_ffff), finite(false, 0x7f_ffff, 0))?;
+        check_eq(Binary32::read(0x7f7f_ffff), finite(false, 0xff_ffff, 253))
+    }
+
+    #[test]
+    fn special_patterns() -> Result<(), Fail> {
+        check_eq(
+            Binary64::read(0x7ff0_0000_0000_0000),
+            Reading::Infinite { negative: false },
+        )?;
+        check_eq(
+            Binary64::read(0xfff0_0000_0000_0000),
+            Reading::Infinite { negative: true },
+        )?;
+        check_eq(
+            Binary64::read(0x7ff0_0000_0000_0001),
+            Reading::SignallingNan,
+        )?;
+        check_eq(
+            Binary64::read(0xfff7_ffff_ffff_ffff),
+            Reading::SignallingNan,
+        )?;
+        check_eq(Binary64::read(0x7ff8_0000_0000_0000), Reading::QuietNan)?;
+        check_eq(
+            Binary32::read(0xff80_0000),
+            Reading::Infinite { negative: true },
+        )?;
+        check_eq(Binary32::read(0x7fbf_ffff), Reading::SignallingNan)?;
+        check_eq(Binary32::read(0x7fc0_0000), Reading::QuietNan)
+    }
+
+    #[test]
+    fn written_values() -> Result<(), Fail> {
+        check_eq(Binary64::write(0, 0), Some(0))?;
+        check_eq(Binary64::write(1 << 52, 0), Some(0x0010_0000_0000_0000))?;
+        check_eq(
+            Binary64::write((1 << 53) - 1, 2045),
+            Some(0x7fef_ffff_ffff_ffff),
+        )?;
+        check_eq(Binary64::write(1 << 52, 2046), None)?;
+        check_eq(Binary64::write(1, 1), None)?;
+        check_eq(Binary32::write(0x80_0000, 150), Some(0x4b80_0000))?;
+        check_eq(Binary32::write(0x100_0000, 0), None)
+    }
+}

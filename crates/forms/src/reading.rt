@@ -1,7 +1,7 @@
 //! What a bit pattern means.
 
 /// The reading of a pattern in a number form. Exponents are counted from the form's least one.
-#[derive(Clone, Copy)]
+#[derive(Clone, Copy, PartialEq, Eq, Debug)]
 pub enum Reading {
     /// the number `significand * 2^exponent`, or its negative
     Finite {

@@ -63,3 +63,39 @@ pub impl NumberForm for Thousandths as ThousandthsForm {
         OVER_RANGE
     }
 }
+
+#[cfg(test)]
+mod tests {
+    use super::*;
+    use crate::reading::ReadingDebug;
+    use crate::reading::ReadingPartialEq;
+    use std::test::*;
+
+    fn whole(negative: bool, significand: u64) -> Reading {
+        Reading::Finite {
+            negative,
+            significand,
+            exponent: 0,
+        }
+    }
+
+    #[test]
+    fn edges() -> Result<(), Fail> {
+        check_eq(Thousandths::read(0), whole(false, 0))?;
+        check_eq(Thousandths::read(0x7fff_fffe), whole(false, 2_147_483_646))?;
+        check_eq(
+            Thousandths::read(0x7fff_ffff),
+            Reading::Infinite { negative: false },
+        )?;
+        check_eq(Thousandths::read(0x8000_0000), Reading::QuietNan)?;
+        check_eq(
+            Thousandths::read(0x8000_0001),
+            Reading::Infinite { negative: true },
+        )?;
+        check_eq(Thousandths::read(0x8000_0002), whole(true, 2_147_483_646))?;
+        check_eq(Thousandths::read(0xffff_ffff), whole(true, 1))?;
+        check_eq(Thousandths::write(2_147_483_646, 0), Some(0x7fff_fffe))?;
+        check_eq(Thousandths::write(2_147_483_647, 0), None)?;
+        check_eq(Thousandths::write(1, 1), None)
+    }
+}

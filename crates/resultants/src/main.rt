@@ -59,24 +59,39 @@ fn print_fault(rt: &LibcRuntime, number: u64, fault: LineFault) -> io::Result<()
     }
 }
 
+// Takes the byte 10 off the end of a line that has one.
+fn without_newline(line: &[u8]) -> &[u8] {
+    match line {
+        [text @ .., b'\n'] => text,
+        _ => line,
+    }
+}
+
 fn run(rt: &LibcRuntime) -> io::Result<()> {
     let mut input = BufReader::new(rt.stdin());
     let mut line = Vec::new(rt.alloc());
-    let mut solved_count = 0;
+    let mut solved_count: u64 = 0;
+    let mut fault_count: u64 = 0;
     for number in 1..u64::MAX {
         line.clear();
         if input.read_until(b'\n', &mut line)? == 0 {
             break;
         }
-        if line.last() == Some(&b'\n') {
-            line.pop();
-        }
-        match solve_line(&line) {
-            Ok(solved) => print_solved(rt, number, solved)?,
-            Err(fault) => print_fault(rt, number, fault)?,
+        match solve_line(without_newline(&line)) {
+            Ok(solved) => {
+                solved_count = solved_count.saturating_add(1);
+                print_solved(rt, number, solved)?;
+            }
+            Err(fault) => {
+                fault_count = fault_count.saturating_add(1);
+                print_fault(rt, number, fault)?;
+            }
         }
     }
-    Ok(())
+    println!(
+        rt,
+        "{solved_count} resultants, {fault_count} lines not read"
+    )
 }
 
 fn main(rt: LibcRuntime) -> io::Result<()> {

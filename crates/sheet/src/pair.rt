@@ -7,14 +7,14 @@ use crate::hex::number;
 use triangle::resultant::resultant;
 
 /// Two patterns of 32 bits.
-#[derive(Clone, Copy)]
+#[derive(Clone, Copy, PartialEq, Eq, Debug)]
 pub struct Pair {
     pub x: u32,
     pub y: u32,
 }
 
 /// What is wrong with a line.
-#[derive(Clone, Copy)]
+#[derive(Clone, Copy, PartialEq, Eq, Debug)]
 pub enum LineFault {
     /// not eight bytes, a space and eight bytes
     Layout,
@@ -31,7 +31,7 @@ pub impl From<NotADigit> for LineFault as FaultFromDigit {
 }
 
 /// Two readings with their resultant.
-#[derive(Clone, Copy)]
+#[derive(Clone, Copy, PartialEq, Eq, Debug)]
 pub struct Solved {
     pub pair: Pair,
     pub resultant: u32,
@@ -62,4 +62,35 @@ pub fn read_pair(line: &[u8]) -> Result<Pair, LineFault>
         x: x as u32,
         y: y as u32,
     })
+}
+
+#[cfg(test)]
+mod tests {
+    use super::*;
+    use std::test::*;
+
+    #[test]
+    fn good_lines() -> Result<(), Fail> {
+        check_eq(
+            read_pair(b"00000bb8 00000fa0"),
+            Ok(Pair { x: 3000, y: 4000 }),
+        )?;
+        let capitals = Pair {
+            x: u32::MAX,
+            y: 0xabcd_ef01,
+        };
+        check_eq(read_pair(b"FFFFffff ABCDef01"), Ok(capitals))
+    }
+
+    #[test]
+    fn faulty_lines() -> Result<(), Fail> {
+        check_eq(read_pair(b""), Err(LineFault::Layout))?;
+        check_eq(read_pair(b"00000bb8 00000fa"), Err(LineFault::Layout))?;
+        check_eq(read_pair(b"00000bb8 00000fa00"), Err(LineFault::Layout))?;
+        check_eq(read_pair(b"00000bb8,00000fg0"), Err(LineFault::Layout))?;
+        check_eq(read_pair(b"0000/bb8 0000:fa0"), Err(LineFault::Digit(4)))?;
+        check_eq(read_pair(b"00000bb8 0000@fa0"), Err(LineFault::Digit(13)))?;
+        check_eq(read_pair(b"00000bb8 0000000G"), Err(LineFault::Digit(16)))?;
+        check_eq(read_pair(b"\xff0000bb8 00000fa0"), Err(LineFault::Digit(0)))
+    }
 }

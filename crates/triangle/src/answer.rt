@@ -19,3 +19,39 @@ pub fn root_pattern<F: NumberForm>(n: u64) -> F::Pattern
     let root = length(F::form().precision, n);
     F::write(root.significand, root.exponent).unwrap_or(F::plus_infinity())
 }
+
+#[cfg(test)]
+mod tests {
+    use super::*;
+    use forms::binary::Binary32Form;
+    use forms::binary::Binary64Form;
+    use std::test::*;
+
+    #[test]
+    fn small_radicands() -> Result<(), Fail> {
+        // two smallest subnormals have a root between one and two units
+        check_eq(root_pattern::<Binary64Form>(2), 1)?;
+        check_eq(root_pattern::<Binary64Form>(0), 0)
+    }
+
+    #[test]
+    fn ties_of_24_bits() -> Result<(), Fail> {
+        // the roots 2^25 + 2 and 2^25 + 6 lie halfway between multiples of four
+        check_eq(
+            root_pattern::<Binary32Form>(0x4_0000_0800_0004),
+            0x0180_0000,
+        )?;
+        check_eq(
+            root_pattern::<Binary32Form>(0x4_0000_0800_0005),
+            0x0180_0001,
+        )?;
+        check_eq(
+            root_pattern::<Binary32Form>(0x4_0000_1800_0024),
+            0x0180_0002,
+        )?;
+        check_eq(
+            root_pattern::<Binary32Form>(0x4_0000_1800_0023),
+            0x0180_0001,
+        )
+    }
+}

@@ -26,3 +26,35 @@ pub fn resultant(x: u32, y: u32) -> u32
         }
     }
 }
+
+#[cfg(test)]
+mod tests {
+    use super::*;
+    use std::test::*;
+
+    #[test]
+    fn finite_readings() -> Result<(), Fail> {
+        check_eq(resultant(3000, 4000), 5000)?;
+        check_eq(resultant(0, 0), 0)?;
+        check_eq(resultant(1, 1), 1)?;
+        check_eq(resultant(1, 0), 1)?;
+        check_eq(resultant(0xffff_f448, 4000), 5000)?;
+        check_eq(resultant(0x8000_0002, 0), 0x7fff_fffe)
+    }
+
+    #[test]
+    fn beyond_the_largest() -> Result<(), Fail> {
+        check_eq(resultant(0x7fff_fffe, 0xb504), 0x7fff_fffe)?;
+        check_eq(resultant(0x7fff_fffe, 0xb505), 0x7fff_ffff)?;
+        check_eq(resultant(0x7fff_fffe, 0x7fff_fffe), 0x7fff_ffff)
+    }
+
+    #[test]
+    fn special_readings() -> Result<(), Fail> {
+        check_eq(resultant(0x8000_0000, 5), 0x8000_0000)?;
+        check_eq(resultant(5, 0x8000_0000), 0x8000_0000)?;
+        check_eq(resultant(0x8000_0001, 5), 0x7fff_ffff)?;
+        check_eq(resultant(0x8000_0000, 0x8000_0001), 0x7fff_ffff)?;
+        check_eq(resultant(0x7fff_ffff, 0x8000_0000), 0x7fff_ffff)
+    }
+}

@@ -12,7 +12,6 @@ returns g c =
     let law = g .F·NumberForm·met .lawful in
     let root = c .length-root .result in
     let l = subst (λ (f : Form). Length (f .precision) (c .args .n) (root .significand) (root .exponent)) (c .form .ensures) (c .length-root .ensures) in
-    let same : c .unwrap-or .result ≡ root-pattern encoding (c .args .n) =
-    c .unwrap-or .ensures ∙ ap (valueOr (c .write .result)) (c .plus-infinity .ensures)
-    ∙ writes encoding law (c .args .n) (root .significand) (root .exponent) l (c .write .result) (c .write .ensures) in
+    let chosen : c .unwrap-or .result ≡ valueOr (c .write .result) (encoding .plus-infinity) = c .unwrap-or .ensures ∙ ap (valueOr (c .write .result)) (c .plus-infinity .ensures) in
+    let same : c .unwrap-or .result ≡ root-pattern encoding (c .args .n) = chosen ∙ writes encoding law (c .args .n) (root .significand) (root .exponent) l (c .write .result) (c .write .ensures) in
     record { value = same; nearest = subst (Answers-root encoding (c .args .n)) (sym same) (root-answers encoding law (c .args .n)) }
