@@ -1,12 +1,9 @@
 -- How many bits a number has, against powers of two.
 use mathlib.Core.Path.{_≡_, sym, subst}
-use mathlib.Core.Logic.{_⊎_, inl, inr}
 use Prim.Native.Nat.{ℕ, max, _+_, _-_, _*_, _/_, _^_, _≤_, _<_}
 use native.Mathlib.Nat.{lt-of-lt-of-le, le-trans}
 use native.Mathlib.Omega.{arith}
 use lib.Count.{leadingZeros, leading-length}
-use Rattle.exact.specs.declared.form.Form.{Form}
-use Rattle.exact.specs.Value.{Value}
 use Rattle.exact.specs.Length.{Ulp}
 use Rattle.exact.proofs.Squares.{two-le, two-half, le-unless}
 use Rattle.exact.proofs.Ulps.{four-is}
@@ -38,16 +35,6 @@ module _ (k m : ℕ) (h : Has-bits k m) where
 
   pub bits-least : (p : ℕ) → 2 ^ (p - 1) ≤ k → max p 1 ≤ m
   bits-least p g = le-unless (max p 1) m (λ (b : m < max p 1). let i : m ≤ p - 1 = omega arith in omega (arith, two-le m (p - 1) i, h .most, g))
-
--- the bits that tell a value
-pub value-by-bits : (form : Form) (k e m : ℕ) → Has-bits k m → e ≤ form .span → m ≤ form .precision → (e ≡ form .span → k ≤ form .largest)
-    → (e ≡ 0) ⊎ (max (form .precision) 1 ≤ m) → Value form k e
-value-by-bits form k e m h within short capped full = record {
-  within = within;
-  short = short-of k m h (form .precision) short;
-  capped = capped;
-  full = λ g. elim full [ inl z ↦ absurd (omega arith) | inr b ↦ full-of k m h (form .precision) b ];
-}
 
 -- the bits of a radicand tell the last place of its root
 pub ulp-by-bits : (p n m : ℕ) → Has-bits n m → Ulp p n ((m + 1) / 2 - p)

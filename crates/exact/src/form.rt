@@ -1,4 +1,6 @@
 //! The parameters of a number form: which magnitudes it holds.
+ghost use mathlib.Core.Path.{_≡_};
+ghost use Prim.Native.Nat.{_-_, _^_, _<_, _≤_};
 ghost use Rattle.std.specs.Orderings.{Decides};
 ghost use Rattle.exact.specs.Value.{Value};
 
@@ -21,15 +23,26 @@ impl Form {
     pub fn contains(self, significand: u64, exponent: u32) -> bool
         ensures { λ r. ⌜ Decides r (Value self significand exponent) ⌝ }
     {
+        self.reaches(significand, exponent) && self.fits(significand, exponent)
+    }
+
+    // Whether the exponent, and at the largest exponent the significand, is not too large.
+    fn reaches(self, significand: u64, exponent: u32) -> bool
+        ensures { λ r. ⌜ Decides r ((exponent ≤ self .span) × (exponent ≡ self .span → significand ≤ self .largest)) ⌝ }
+    {
+        if exponent == self.span {
+            significand <= self.largest
+        } else {
+            exponent < self.span
+        }
+    }
+
+    // Whether the significand has no bit too many, and above the least exponent none too few.
+    fn fits(self, significand: u64, exponent: u32) -> bool
+        ensures { λ r. ⌜ Decides r ((significand < 2 ^ (self .precision)) × (0 < exponent → 2 ^ (self .precision - 1) ≤ significand)) ⌝ }
+    {
         let bits = 64 - significand.leading_zeros();
-        if exponent > self.span || bits > self.precision {
-            return false;
-        }
-        if exponent == self.span && significand > self.largest {
-            return false;
-        }
-        // Above the least exponent a significand has all its bits.
-        exponent == 0 || bits >= self.precision.max(1)
+        bits <= self.precision && (exponent == 0 || bits >= self.precision.max(1))
     }
 }
 

@@ -166,7 +166,7 @@ mod tests {
             Binary64::read(0xfff7_ffff_ffff_ffff),
             Reading::SignallingNan,
         )?;
-        check_eq(Binary64::read(0x7ff8_0000_0000_0000), Reading::QuietNan)?;
+        check_eq(Binary64::read(0x7ffc_0000_0000_0000), Reading::QuietNan)?;
         check_eq(
             Binary32::read(0xff80_0000),
             Reading::Infinite { negative: true },

@@ -9,10 +9,6 @@ use Rattle.exact.specs.Value.{Value, units, largest-value}
 use Rattle.exact.specs.Length.{Length, length-significand, length-exponent}
 use Rattle.exact.proofs.Lengths.{length-exists, length-unique}
 use Rattle.exact.proofs.Values.{length-is-value, length-is-nearest, length-within, value-most}
-use Rattle.std.specs.Numbers.{Checked}
-use Rattle.std.specs.Options.{valueOr}
-use Rattle.std.specs.declared.option.Option.{Option}
-use Rattle.std.specs.declared.option.Option.the-variants.{Some, None}
 use Rattle.forms.specs.declared.reading.Reading.the-variants.{Finite}
 use Rattle.forms.specs.Encoding.{Encoding, Lawful}
 use Rattle.triangle.specs.Outcome.{Outcome, no-number, infinite, root-of}
@@ -48,19 +44,16 @@ module _ {P : Type 0} (encoding : Encoding P) (law : Lawful encoding) (n k e : �
   by-length true t pattern a = law .one-pattern pattern k e (a .finite k e l (leb-true _ _ t))
   by-length false t pattern a = a .beyond k e l (leb-false _ _ t)
 
-  -- to write a length or else answer plus infinity gives that pattern
-  write-by-test : (b : Bool) → leb (units k e) largest ≡ b → (o : Option P) → Checked o (Value (encoding .form) k e) (encoding .written k e)
-      → valueOr o (encoding .plus-infinity) ≡ cond b (encoding .written k e) (encoding .plus-infinity)
-  write-by-test true t (Some x) c = c .1
-  write-by-test true t None c = absurd (c (length-is-value (encoding .form) (law .in-range) n k e l (leb-true _ _ t)))
-  write-by-test false t (Some x) c = absurd (omega (arith, leb-false _ _ t, value-most (encoding .form) (law .in-range) k e (c .0)))
-  write-by-test false t None c = refl
-
-  pub writes : (o : Option P) → Checked o (Value (encoding .form) k e) (encoding .written k e) → valueOr o (encoding .plus-infinity) ≡ root-pattern encoding n
+  -- to write a length that is a value, and else answer plus infinity, gives that pattern
+  pub writes : (r : P) → (Value (encoding .form) k e → r ≡ encoding .written k e) → ((Value (encoding .form) k e → ⊥) → r ≡ encoding .plus-infinity) → r ≡ root-pattern encoding n
   unfolding root-pattern
-  writes o c =
+  writes r value beyond =
       let u = length-unique (encoding .form .precision) n k e l in
-      write-by-test _ refl o c ∙ (λ i. written-or-infinity encoding (u .0 i) (u .1 i))
+      by-case (leb (units k e) largest) refl ∙ (λ i. written-or-infinity encoding (u .0 i) (u .1 i))
+    where
+      by-case : (b : Bool) → leb (units k e) largest ≡ b → r ≡ cond b (encoding .written k e) (encoding .plus-infinity)
+      by-case true t = value (length-is-value (encoding .form) (law .in-range) n k e l (leb-true _ _ t))
+      by-case false t = beyond (λ v. omega (arith, leb-false _ _ t, value-most (encoding .form) (law .in-range) k e v))
 
 module _ {P : Type 0} (encoding : Encoding P) (law : Lawful encoding) where
   abbrev p : ℕ

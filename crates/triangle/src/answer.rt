@@ -1,5 +1,6 @@
 //! The pattern that answers for a root, in any number form.
 ghost use mathlib.Core.Path.{_≡_};
+ghost use Rattle.exact.specs.Value.{Value};
 ghost use Rattle.forms.specs.Encoding.{Encoding, Lawful};
 ghost use Rattle.triangle.specs.Answer.{One-answer, Answers-root, root-pattern};
 use exact::length::length;
@@ -17,7 +18,15 @@ pub fn root_pattern<F: NumberForm>(n: u64) -> F::Pattern
     ensures nearest { λ r. ⌜ Answers-root (F·NumberForm .encoding) n r ⌝ }
 {
     let root = length(F::form().precision, n);
-    F::write(root.significand, root.exponent).unwrap_or(F::plus_infinity())
+    written_or_infinity::<F>(root.significand, root.exponent)
+}
+
+// The pattern of `significand * 2^exponent`, or plus infinity where that is no value of the form.
+fn written_or_infinity<F: NumberForm>(significand: u64, exponent: u32) -> F::Pattern
+    ensures value { λ r. ⌜ (Value (F·NumberForm .encoding .form) significand exponent → r ≡ F·NumberForm .encoding .written significand exponent) ⌝ }
+    ensures beyond { λ r. ⌜ ((Value (F·NumberForm .encoding .form) significand exponent → ⊥) → r ≡ F·NumberForm .encoding .plus-infinity) ⌝ }
+{
+    F::write(significand, exponent).unwrap_or(F::plus_infinity())
 }
 
 #[cfg(test)]

@@ -1,7 +1,6 @@
-use mathlib.Core.Path.{_≡_, sym, ap, _∙_, subst}
+use mathlib.Core.Path.{_≡_, sym, subst}
 use Rattle.exact.specs.declared.form.Form.{Form}
 use Rattle.exact.specs.Length.{Length}
-use Rattle.std.specs.Options.{valueOr}
 use Rattle.triangle.specs.Answer.{root-pattern, Answers-root}
 use Rattle.triangle.proofs.Answering.{writes, root-answers}
 use Rattle.triangle.proofs.answer.root_pattern.Needs as need
@@ -11,7 +10,7 @@ returns g c =
     let encoding = g .F·NumberForm .encoding in
     let law = g .F·NumberForm·met .lawful in
     let root = c .length-root .result in
+    let r = c .written-or-infinity .result in
     let l = subst (λ (f : Form). Length (f .precision) (c .args .n) (root .significand) (root .exponent)) (c .form .ensures) (c .length-root .ensures) in
-    let chosen : c .unwrap-or .result ≡ valueOr (c .write .result) (encoding .plus-infinity) = c .unwrap-or .ensures ∙ ap (valueOr (c .write .result)) (c .plus-infinity .ensures) in
-    let same : c .unwrap-or .result ≡ root-pattern encoding (c .args .n) = chosen ∙ writes encoding law (c .args .n) (root .significand) (root .exponent) l (c .write .result) (c .write .ensures) in
+    let same : r ≡ root-pattern encoding (c .args .n) = writes encoding law (c .args .n) (root .significand) (root .exponent) l r (c .written-or-infinity .ensures .value) (c .written-or-infinity .ensures .beyond) in
     record { value = same; nearest = subst (Answers-root encoding (c .args .n)) (sym same) (root-answers encoding law (c .args .n)) }
