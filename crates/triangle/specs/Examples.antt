@@ -18,6 +18,12 @@ pub record Worked-examples : Type 0 where
   -- a root just above the largest value still rounds to it, and one a little larger is infinite
   pub largest : hypot-pattern binary64 (0x7fef_ffff_ffff_ffff ∷ 0x7e40_0000_0000_0000 ∷ []) ≡ 0x7fef_ffff_ffff_ffff
   pub overflow : hypot-pattern binary64 (0x7fef_ffff_ffff_ffff ∷ 0x7e48_0000_0000_0000 ∷ []) ≡ 0x7ff0_0000_0000_0000
+  -- 2 ^ 28 and 7
+  pub near-first-side : hypot-pattern binary64 (0x41b0_0000_0000_0000 ∷ 0x401c_0000_0000_0000 ∷ []) ≡ 0x41b0_0000_0000_0002
+  -- 18,695,267 and 385,609,956 have the whole root 386,062,885
+  pub whole-root : hypot-pattern binary64 (0x4171_d446_3000_0000 ∷ 0x41b6_fbf0_e400_0000 ∷ []) ≡ 0x41b7_02da_2500_0000
+  -- a root halfway between two values gives the even one
+  pub midpoint : hypot-pattern binary64 (0x4126_74ae_8442_8370 ∷ 0x4172_4256_e4fa_a000 ∷ []) ≡ 0x4172_45ca_4fdd_ebe4
   -- an infinity outweighs a quiet NaN, and a signalling NaN outweighs both
   pub infinite : hypot-pattern binary64 (0x7ff8_0000_0000_0001 ∷ 0xfff0_0000_0000_0000 ∷ []) ≡ 0x7ff0_0000_0000_0000
   pub signalling : hypot-pattern binary64 (0x7ff0_0000_0000_0000 ∷ 0x7ff0_0000_0000_0001 ∷ []) ≡ 0x7ff8_0000_0000_0000
@@ -31,6 +37,15 @@ pub record Worked-examples : Type 0 where
   pub above-tie : hypot-pattern binary32 (0x4b19_999f ∷ 0x4b4c_ccd4 ∷ 1 ∷ []) ≡ 0x4b80_0005
   -- three sides: 3, 4 and 0 give 5
   pub three-sides : hypot-pattern binary32 (0x4040_0000 ∷ 0x4080_0000 ∷ 0 ∷ []) ≡ 0x40a0_0000
+  -- 1, 1 and 0 give the root of two
+  pub third-zero : hypot-pattern binary32 (0x3f80_0000 ∷ 0x3f80_0000 ∷ 0 ∷ []) ≡ 0x3fb5_04f3
+  -- large sides with a small third are finite, and two small sides count together
+  pub large-sides : hypot-pattern binary32 (0x7f00_0000 ∷ 0x7f00_0000 ∷ 0x3f80_0000 ∷ []) ≡ 0x7f35_04f3
+  pub small-sides : hypot-pattern binary32 (0x4110_0000 ∷ 0x3b40_0000 ∷ 0x3501_36f4 ∷ []) ≡ 0x4110_0001
+  -- a small second side moves the root by more than half a unit
+  pub small-side : hypot-pattern binary32 (0x40a0_0000 ∷ 0x3aca_62c2 ∷ []) ≡ 0x40a0_0001
+  -- an infinity outweighs a quiet NaN among three sides too
+  pub three-with-infinity : hypot-pattern binary32 (0x7fc0_0000 ∷ 0x3f80_0000 ∷ 0x7f80_0000 ∷ []) ≡ 0x7f80_0000
   -- thousandths: 1 and 1 give 1
   pub one-one : hypot-pattern thousandths (1 ∷ 1 ∷ []) ≡ 1
   -- twice 2,147,483,646 gives over range
