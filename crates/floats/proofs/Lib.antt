@@ -1,3 +1,5 @@
 pub mod Grid
 pub mod Nearest
 pub mod ExactSum
+pub mod Sums
+pub mod Values
