@@ -3,3 +3,4 @@ pub mod Nearest
 pub mod ExactSum
 pub mod Sums
 pub mod Values
+pub mod Pairs
