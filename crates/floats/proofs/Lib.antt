@@ -4,3 +4,4 @@ pub mod ExactSum
 pub mod Sums
 pub mod Values
 pub mod Pairs
+pub mod Literals

@@ -80,5 +80,5 @@ add-values f c C (fin a m e) (inf b) s t g h v w = absurd w
 add-values f c C (fin a m e) (fin b n d) s t g h v w =
     opened f a b m n e d
     ∙ sum-same f (down e * down d) c (mul-pos (down-pos e) (down-pos d)) C a b (m * up e * down d) (n * up d * down e) g h
-        (omega (arith, ap (λ (z : ℕ). z * down d) (v .1))) (omega (arith, ap (λ (z : ℕ). z * down e) (w .1)))
+    (omega (arith, ap (λ (z : ℕ). z * down d) (v .1))) (omega (arith, ap (λ (z : ℕ). z * down e) (w .1)))
     ∙ (λ i. sum f (v .0 i) g (w .0 i) h c)
