@@ -1,12 +1,12 @@
 -- Each step of an exact sum has a representable result, so that rounding leaves it as it is. All follows from distances: no representable number is nearer to a sum than the rounded sum.
-use mathlib.Core.Path.{_≡_, refl, sym, ap, _∙_, subst}
+use mathlib.Core.Path.{_≡_}
 use mathlib.Core.Logic.{_⊎_, inl, inr}
-use Prim.Native.Nat.{ℕ, suc, _+_, _*_, _^_, _≤_, _<_}
+use Prim.Native.Nat.{suc, _*_, _^_, _≤_, _<_}
 use native.Mathlib.Nat.{le-of-lt}
 use native.Mathlib.Omega.{arith}
 use lib.IntN.{ℤ, pos, negsuc, negℤ, natAbs, _+ℤ_, _-ℤ_}
 use Rattle.std.proofs.shelf.Signed.{ints}
-use Rattle.floats.proofs.Grid.{Short, Representable, lt-or-le, same-representable, same-short, small-short, zero-short, twice-short, half-short, opposite, close-difference}
+use Rattle.floats.proofs.Grid.{Representable, lt-or-le, same-representable, same-short, small-short, zero-short, twice-short, half-short, opposite, close-difference}
 use Rattle.floats.proofs.Nearest.{roundedℤ, near, rounded-exact, rounded-representable, lacking}
 
 twice-representable : (z : ℤ) → Representable z → Representable (z +ℤ z)

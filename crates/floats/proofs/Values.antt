@@ -1,6 +1,6 @@
 -- Finite floats by their units: a sum or difference of floats is the rounded sum or difference of their units, whatever the signs, as long as it stays below 2 ^ 1022.
 use mathlib.Core.Path.{_≡_, refl, sym, ap, _∙_, subst}
-use mathlib.Core.Bool.{Bool, true, false, not, Bool·beq, _&&_}
+use mathlib.Core.Bool.{Bool, true, false, not, _&&_}
 use Prim.Native.Nat.{ℕ, zero, suc, _+_, _-_, _*_, _/_, _%_, _^_, _≤_, _<_}
 use native.Mathlib.Nat.{le-trans, lt-of-le-of-lt, mul-pos, mul-one, one-mul, mul-assoc, mul-div-cancel, eq-of-mul-eq-mul-right, le-of-suc-le-suc, lt-of-not-le, lt-irrefl, lt-of-lt-of-le}
 use native.Mathlib.Omega.{arith}
@@ -17,7 +17,7 @@ use Rattle.std.proofs.shelf.Signed.{ints}
 use Rattle.floats.specs.Units.{unit, most, signed, units}
 use Rattle.floats.proofs.Grid.{Short, Representable, excess, on-grid, zero-short}
 use Rattle.floats.proofs.Nearest.{rounded, roundedℤ, near-low, rounded-opposite}
-use Rattle.floats.proofs.Sums.{Order, less, level, more, order, sum-like, sum-less, sum-level, sum-more, add-values}
+use Rattle.floats.proofs.Sums.{less, level, more, order, sum-like, sum-less, sum-level, sum-more, add-values}
 
 -- 2 ^ 1022 in units: what is at most this does not overflow when rounded
 unfoldable pub capacity : ℕ

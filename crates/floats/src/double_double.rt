@@ -3,13 +3,12 @@
 //! What a rounded sum lacks is a float itself, since all floats are multiples of one least unit; so a
 //! few more sums and differences find it.
 ghost use mathlib.Core.Path.{_≡_};
-ghost use Prim.Native.Nat.{ℕ, _≤_};
-ghost use lib.Dec.{T};
-ghost use lib.IntN.{natAbs, _+ℤ_};
+ghost use Prim.Native.Nat.{_≤_};
+ghost use lib.IntN.{natAbs};
 ghost use lib.Ieee as Ieee;
 ghost use lib.Ieee.{binary64};
-ghost use lib.Ieee.Scale.{finite};
 ghost use Rattle.floats.specs.Units.{units, Moderate};
+ghost use Rattle.floats.specs.ExactSum.{Exact-sum, lost-of-b, lost};
 
 /// A number as an unevaluated sum of two floats.
 #[derive(Clone, Copy)]
@@ -25,13 +24,9 @@ impl DoubleDouble {
         requires first { ⌜ Moderate a ⌝ }
         requires second { ⌜ Moderate b ⌝ }
         requires ordered { ⌜ natAbs (units b) ≤ natAbs (units a) ⌝ }
-        ensures rounded { λ r. ⌜ r .hi ≡ Ieee.add binary64 a b ⌝ }
-        ensures numbers { λ r. ⌜ T (finite (r .hi)) × T (finite (r .lo)) ⌝ }
-        ensures exact { λ r. ⌜ units (r .hi) +ℤ units (r .lo) ≡ units a +ℤ units b ⌝ }
+        ensures { λ r. ⌜ Exact-sum a b (r .hi) (r .lo) ⌝ }
     {
-        let hi = a + b;
-        let from_b = hi - a;
-        DoubleDouble { hi, lo: b - from_b }
+        sum_and_loss_of_b(a, b)
     }
 
     /// The exact sum of `a` and `b` in either order, with no branch. For inner callers, which see to it
@@ -39,19 +34,9 @@ impl DoubleDouble {
     pub fn from_full_exact_add(a: f64, b: f64) -> DoubleDouble
         requires first { ⌜ Moderate a ⌝ }
         requires second { ⌜ Moderate b ⌝ }
-        ensures rounded { λ r. ⌜ r .hi ≡ Ieee.add binary64 a b ⌝ }
-        ensures numbers { λ r. ⌜ T (finite (r .hi)) × T (finite (r .lo)) ⌝ }
-        ensures exact { λ r. ⌜ units (r .hi) +ℤ units (r .lo) ≡ units a +ℤ units b ⌝ }
+        ensures { λ r. ⌜ Exact-sum a b (r .hi) (r .lo) ⌝ }
     {
-        let hi = a + b;
-        let from_b = hi - a;
-        let from_a = hi - from_b;
-        let lost_b = b - from_b;
-        let lost_a = a - from_a;
-        DoubleDouble {
-            hi,
-            lo: lost_b + lost_a,
-        }
+        sum_and_loss(a, b)
     }
 
     /// The same number with the other sign.
@@ -63,6 +48,32 @@ impl DoubleDouble {
             hi: -self.hi,
             lo: -self.lo,
         }
+    }
+}
+
+// The rounded sum, and what it lost of `b`. Where `a` is no smaller, nothing is lost of `a`.
+fn sum_and_loss_of_b(a: f64, b: f64) -> DoubleDouble
+    ensures high { λ r. ⌜ r .hi ≡ Ieee.add binary64 a b ⌝ }
+    ensures low { λ r. ⌜ r .lo ≡ lost-of-b a b ⌝ }
+{
+    let hi = a + b;
+    let from_b = hi - a;
+    DoubleDouble { hi, lo: b - from_b }
+}
+
+// The rounded sum, and what it lost of `a` and `b` together.
+fn sum_and_loss(a: f64, b: f64) -> DoubleDouble
+    ensures high { λ r. ⌜ r .hi ≡ Ieee.add binary64 a b ⌝ }
+    ensures low { λ r. ⌜ r .lo ≡ lost a b ⌝ }
+{
+    let hi = a + b;
+    let from_b = hi - a;
+    let from_a = hi - from_b;
+    let lost_b = b - from_b;
+    let lost_a = a - from_a;
+    DoubleDouble {
+        hi,
+        lo: lost_b + lost_a,
     }
 }
 
