@@ -1,7 +1,7 @@
 //! A number as an unevaluated sum of two floats, and the exact sum of two floats as such a pair.
 //!
-//! What a rounded sum lacks is a float itself, since all floats are multiples of one least unit; so a
-//! few more sums and differences find it.
+//! What a rounded sum lacks is a float itself: a multiple of the last place of the smaller term, and no
+//! larger than that term. So a few more sums and differences find it without error.
 ghost use mathlib.Core.Path.{_≡_};
 ghost use Prim.Native.Nat.{_≤_};
 ghost use lib.IntN.{natAbs};
@@ -19,7 +19,7 @@ pub struct DoubleDouble {
 
 impl DoubleDouble {
     /// The exact sum of `a` and `b`, where `a` is no smaller in size. For inner callers, which see to
-    /// that, and that neither is larger than 2^1000.
+    /// that, and that both are finite and at most 2^1000 in size.
     pub fn from_exact_add(a: f64, b: f64) -> DoubleDouble
         requires first { ⌜ Moderate a ⌝ }
         requires second { ⌜ Moderate b ⌝ }
@@ -30,7 +30,7 @@ impl DoubleDouble {
     }
 
     /// The exact sum of `a` and `b` in either order, with no branch. For inner callers, which see to it
-    /// that neither is larger than 2^1000.
+    /// that both are finite and at most 2^1000 in size.
     pub fn from_full_exact_add(a: f64, b: f64) -> DoubleDouble
         requires first { ⌜ Moderate a ⌝ }
         requires second { ⌜ Moderate b ⌝ }
