@@ -6,10 +6,10 @@ use mathlib.Core.Bool.{Bool, true, false, cond, _&&_}
 use Prim.Native.Nat.{ℕ, _+_, _-_, _*_, _/_, _%_, _^_, _≤_, _<_}
 use native.Mathlib.Nat.{mul-le-mul-right, le-of-mul-le-mul-right, le-trans, le-of-eq, le-antisymm, lt-of-lt-of-le, eq-or-lt-of-le, eq-of-mul-eq-mul-right}
 use native.Mathlib.Omega.{arith}
-use lib.Dec.{eqb}
-use borrow.Author.Tests.{eqb-true, eqb-false}
+use lib.Dec.{eqb, ltb}
+use borrow.Author.Tests.{eqb-true, eqb-false, ltb-true, ltb-false}
 use Rattle.exact.specs.Root.{isqrt}
-use Rattle.exact.specs.Length.{Nearest-whole, half-to-even, rounded-root}
+use Rattle.exact.specs.Length.{Nearest-whole, half-to-even, nearer-root, rounded-root}
 use Rattle.exact.proofs.Squares.{le-of-squares, squares-le, le-unless, four-pos}
 use Rattle.exact.proofs.Roots.{isqrt-is, root-of-quotient}
 
@@ -101,14 +101,21 @@ nearest-at-least n k low high = record {
     odd a h = omega arith
 
 -- the floor root r is nearest where the residual n - r * r is at most r, and r + 1 elsewhere
-pub nearest-is-floor : (n r : ℕ) → r * r ≤ n → n - r * r ≤ r → r ≡ rounded-root n 0
+nearest-is-floor : (n r : ℕ) → r * r ≤ n → n - r * r ≤ r → r ≡ rounded-root n 0
 nearest-is-floor n r low h = nearest-whole-unique n 0 r _ (nearest-at-least n r under-r (omega arith)) (rounded-root-is n 0)
   where
     under-r : 0 < r → (2 * r - 1) * (2 * r - 1) ≤ 4 * n
     under-r pos = omega (arith, squares-le (2 * r - 1) (2 * r) (omega arith))
 
-pub nearest-is-next : (n r : ℕ) → n < (r + 1) * (r + 1) → r < n - r * r → r + 1 ≡ rounded-root n 0
+nearest-is-next : (n r : ℕ) → n < (r + 1) * (r + 1) → r < n - r * r → r + 1 ≡ rounded-root n 0
 nearest-is-next n r high h = nearest-whole-unique n 0 (r + 1) _ (nearest-at-least n (r + 1) under-r (omega arith)) (rounded-root-is n 0)
   where
     under-r : 0 < r + 1 → (2 * (r + 1) - 1) * (2 * (r + 1) - 1) ≤ 4 * n
     under-r pos = let o : 2 * (r + 1) - 1 ≡ 2 * r + 1 = omega arith in subst (λ (z : ℕ). z * z ≤ 4 * n) (sym o) (omega arith)
+
+pub nearer-root-is : (n r : ℕ) → r * r ≤ n → n < (r + 1) * (r + 1) → nearer-root n r ≡ rounded-root n 0
+nearer-root-is n r low high = by-test (ltb r (n - r * r)) refl
+  where
+    by-test : (b : Bool) → ltb r (n - r * r) ≡ b → cond b (r + 1) r ≡ rounded-root n 0
+    by-test true t = nearest-is-next n r high (ltb-true _ _ t)
+    by-test false t = nearest-is-floor n r low (ltb-false _ _ t)

@@ -2,7 +2,7 @@
 use mathlib.Core.Path.{_≡_}
 use mathlib.Core.Bool.{Bool, cond, _&&_}
 use Prim.Native.Nat.{ℕ, _+_, _-_, _*_, _/_, _%_, _^_, _≤_, _<_}
-use lib.Dec.{eqb}
+use lib.Dec.{eqb, ltb}
 use lib.Ieee.{size}
 use Rattle.exact.specs.Root.{isqrt}
 
@@ -42,6 +42,10 @@ rounded-from n e d = half-to-even d (eqb (d * d * 4 ^ e) (4 * n))
 -- the nearest whole number to the root of n in units of 2 ^ e
 unfoldable pub rounded-root : ℕ → ℕ → ℕ
 rounded-root n e = rounded-from n e (isqrt (4 * n / 4 ^ e))
+
+-- the floor root r of n, or the next number where the residual n - r * r is above r
+abbrev pub nearer-root : ℕ → ℕ → ℕ
+nearer-root n r = cond (ltb r (n - r * r)) (r + 1) r
 
 -- k is one bit too long
 abbrev pub carries : ℕ → ℕ → Bool

@@ -3,8 +3,8 @@
 //! The floor of twice the root, in units of the last place, and whether it is exact tell on which
 //! side of a half the root lies; so the length needs no more than one floor root.
 ghost use mathlib.Core.Path.{_≡_};
-ghost use Prim.Native.Nat.{_^_, _<_, _≤_};
-ghost use Rattle.exact.specs.Length.{Length, half-to-even, rounded-root};
+ghost use Prim.Native.Nat.{_*_, _^_, _<_, _≤_};
+ghost use Rattle.exact.specs.Length.{Length, half-to-even, nearer-root, rounded-root};
 
 /// The number `significand * 2^exponent`, with the exponent counted from the least one.
 #[derive(Clone, Copy, PartialEq, Eq, Debug)]
@@ -51,7 +51,15 @@ fn rounded(n: u64, exponent: u32) -> u64
 fn nearest_root(n: u64) -> u64
     ensures { λ r. ⌜ r ≡ rounded-root n 0 ⌝ }
 {
-    let floor = n.isqrt();
+    nearer(n, n.isqrt())
+}
+
+// The floor root of `n`, or the next number where the root lies nearer to that.
+fn nearer(n: u64, floor: u64) -> u64
+    requires square { ⌜ floor * floor ≤ n ⌝ }
+    requires bound { ⌜ floor < 2 ^ 32 ⌝ }
+    ensures { λ r. ⌜ r ≡ nearer-root n floor ⌝ }
+{
     let residual = n - floor * floor;
     if residual > floor { floor + 1 } else { floor }
 }

@@ -8,17 +8,18 @@ use Rattle.forms.specs.declared.reading.Reading.{Reading}
 use Rattle.forms.specs.declared.reading.Reading.the-variants.{Finite, Infinite, QuietNan, SignallingNan}
 use Rattle.forms.specs.Encoding.{Encoding}
 
--- A field of zeros has no implicit leading bit, and the same exponent as the field 1; a field of ones is no finite
--- number: infinite where the fraction is zero, else a NaN, quiet where the top fraction bit is set.
+-- What the fields mean, where the exponent field of ones and the implicit leading bit of the format are told. A field of
+-- zeros has no implicit bit, and the same exponent as the field 1. A field of ones is no finite number: infinite where
+-- the fraction is zero, else a NaN, quiet where the top fraction bit is set.
 abbrev pub read-fields : ℕ → ℕ → Bool → ℕ → ℕ → Reading
-read-fields w t negative field fraction =
-    cond (eqb field 0) (Finite negative fraction 0)
-    (cond (eqb field (2 ^ w - 1))
-    (cond (eqb fraction 0) (Infinite negative) (cond (ltb fraction (2 ^ (t - 1))) SignallingNan QuietNan))
-    (Finite negative (2 ^ t + fraction) (field - 1)))
+read-fields ones implicit-bit negative exponent fraction =
+    cond (eqb exponent 0) (Finite negative fraction 0)
+    (cond (eqb exponent ones)
+    (cond (eqb fraction 0) (Infinite negative) (cond (ltb fraction (implicit-bit / 2)) SignallingNan QuietNan))
+    (Finite negative (implicit-bit + fraction) (exponent - 1)))
 
 abbrev pub read-binary : ℕ → ℕ → ℕ → Reading
-read-binary w t pattern = read-fields w t (leb (2 ^ (w + t)) pattern) (pattern / 2 ^ t % 2 ^ w) (pattern % 2 ^ t)
+read-binary w t pattern = read-fields (2 ^ w - 1) (2 ^ t) (leb (2 ^ (w + t)) pattern) (pattern / 2 ^ t % 2 ^ w) (pattern % 2 ^ t)
 
 -- a significand with the implicit leading bit adds one to the field e, so that the sum of both fields is the pattern
 abbrev pub binary : ℕ → ℕ → ℤ → Encoding ℕ

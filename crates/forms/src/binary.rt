@@ -1,7 +1,7 @@
 //! The binary interchange formats of 64 and 32 bits.
 ghost use mathlib.Core.Path.{_≡_};
-ghost use Prim.Native.Nat.{_+_, _<_, _≤_};
-ghost use Rattle.forms.specs.Binary.{binary64, binary32, read-binary};
+ghost use Prim.Native.Nat.{_+_, _^_, _<_};
+ghost use Rattle.forms.specs.Binary.{binary64, binary32, read-fields};
 use crate::number_form::NumberForm;
 use crate::reading::Reading;
 use exact::form::Form;
@@ -23,7 +23,12 @@ pub impl NumberForm for Binary64 as Binary64Form {
     }
 
     fn read(pattern: u64) -> Reading {
-        read_fields(pattern, 11, 52)
+        let fields = Fields {
+            negative: pattern >> 63 == 1,
+            exponent: (pattern >> 52) as u32 % 0x800,
+            fraction: pattern % 0x10_0000_0000_0000,
+        };
+        fields.read(0x7ff, 0x10_0000_0000_0000)
     }
 
     fn write(significand: u64, exponent: u32) -> Option<u64> {
@@ -60,7 +65,12 @@ pub impl NumberForm for Binary32 as Binary32Form {
     }
 
     fn read(pattern: u32) -> Reading {
-        read_fields(pattern as u64, 8, 23)
+        let fields = Fields {
+            negative: pattern >> 31 == 1,
+            exponent: (pattern >> 23) % 0x100,
+            fraction: (pattern % 0x80_0000) as u64,
+        };
+        fields.read(0xff, 0x80_0000)
     }
 
     fn write(significand: u64, exponent: u32) -> Option<u32> {
@@ -80,35 +90,42 @@ pub impl NumberForm for Binary32 as Binary32Form {
     }
 }
 
-// The reading of a sign bit, an exponent field and a fraction field of so many bits.
-fn read_fields(pattern: u64, exponent_bits: u32, fraction_bits: u32) -> Reading
-    requires some { ⌜ 1 ≤ «fraction_bits» ⌝ }
-    requires few { ⌜ «exponent_bits» + «fraction_bits» < 64 ⌝ }
-    requires field { ⌜ «exponent_bits» < 32 ⌝ }
-    ensures { λ r. ⌜ r ≡ read-binary «exponent_bits» «fraction_bits» pattern ⌝ }
-{
-    let implicit_bit = 1_u64 << fraction_bits;
-    let negative = pattern >= implicit_bit << exponent_bits;
-    let field = ((pattern >> fraction_bits) % (1_u64 << exponent_bits)) as u32;
-    let fraction = pattern % implicit_bit;
-    if field == 0 {
-        Reading::Finite {
-            negative,
-            significand: fraction,
-            exponent: 0,
+// The parts of a binary pattern.
+#[derive(Clone, Copy)]
+struct Fields {
+    negative: bool,
+    exponent: u32,
+    fraction: u64,
+}
+
+impl Fields {
+    // What the fields mean, `ones` being an exponent field of ones and `implicit_bit` the bit above
+    // the fraction field.
+    fn read(self, ones: u32, implicit_bit: u64) -> Reading
+        requires { ⌜ self .fraction + «implicit_bit» < 2 ^ 64 ⌝ }
+        ensures { λ r. ⌜ r ≡ read-fields ones «implicit_bit» (self .negative) (self .exponent) (self .fraction) ⌝ }
+    {
+        if self.exponent == 0 {
+            Reading::Finite {
+                negative: self.negative,
+                significand: self.fraction,
+                exponent: 0,
+            }
+        } else if self.exponent != ones {
+            Reading::Finite {
+                negative: self.negative,
+                significand: implicit_bit + self.fraction,
+                exponent: self.exponent - 1,
+            }
+        } else if self.fraction == 0 {
+            Reading::Infinite {
+                negative: self.negative,
+            }
+        } else if self.fraction < implicit_bit / 2 {
+            Reading::SignallingNan
+        } else {
+            Reading::QuietNan
         }
-    } else if field < (1 << exponent_bits) - 1 {
-        Reading::Finite {
-            negative,
-            significand: implicit_bit + fraction,
-            exponent: field - 1,
-        }
-    } else if fraction == 0 {
-        Reading::Infinite { negative }
-    } else if fraction < implicit_bit / 2 {
-        Reading::SignallingNan
-    } else {
-        Reading::QuietNan
     }
 }
 

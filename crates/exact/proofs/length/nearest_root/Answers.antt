@@ -1,8 +1,6 @@
-use Rattle.exact.proofs.Rounding.{nearest-is-floor, nearest-is-next}
+use mathlib.Core.Path.{_∙_}
+use Rattle.exact.proofs.Rounding.{nearer-root-is}
 use Rattle.exact.proofs.length.nearest_root.Needs as need
 
-pub returns-then-residual-floor : need.returns-then-residual-floor
-returns-then-residual-floor c = nearest-is-next (c .args .n) (c .isqrt-floor .result) (c .isqrt-floor .ensures .low-bound) (c .if-residual-floor .taken)
-
-pub returns-else-residual-floor : need.returns-else-residual-floor
-returns-else-residual-floor c = nearest-is-floor (c .args .n) (c .isqrt-floor .result) (c .isqrt-floor .ensures .high-bound) (c .if-residual-floor .left)
+pub returns : need.returns
+returns c = c .nearer .ensures ∙ nearer-root-is (c .args .n) (c .isqrt .result) (c .isqrt .ensures .high-bound) (c .isqrt .ensures .low-bound)
