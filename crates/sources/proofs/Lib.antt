@@ -1,2 +1,4 @@
 pub mod Words
 pub mod Digits
+pub mod Tables
+pub mod TableReach
