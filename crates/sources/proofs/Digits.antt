@@ -26,12 +26,6 @@ pub record Room (root residual : ℕ) : Type 0 where
   pub for-residual : residual < 2 ^ 54
 
 module _ (w root residual left n : ℕ) (so : So-far w root residual left n) where
-  pub room : n < 54 → Room root residual
-  room h =
-      let i : n ≤ 53 = omega arith in
-      let a = lt-of-lt-of-le (so .digits) (two-le n 53 i) in
-      record { for-root = a; for-residual = omega (arith, so .small) }
-
   -- two more bits
   abbrev brought : ℕ
   brought = 4 * residual + left / 2 ^ 62
@@ -55,10 +49,24 @@ module _ (w root residual left n : ℕ) (so : So-far w root residual left n) whe
     rest = omega arith;
   }
 
-pub all-digits : (w root residual left : ℕ) → So-far w root residual left 54 → root ≡ isqrt (w * 2 ^ 44)
-all-digits w root residual left so =
-    let e : root * root + residual ≡ w * 2 ^ 44 = omega (arith, so .sum, so .rest) in
-    is-isqrt (w * 2 ^ 44) root (record { low = omega arith; high = omega (arith, so .small) })
+-- what the loop keeps: up to 54 turns there is room, and after 54 the whole radicand is brought down
+pub record After-turns (w root residual left n : ℕ) : Type 0 where
+  pub so-far : So-far w root residual left n
+  pub room : n < 54 → Room root residual
+  pub whole : n ≡ 54 → root ≡ isqrt (w * 2 ^ 44)
+
+pub after-turns : (w root residual left n : ℕ) → So-far w root residual left n → After-turns w root residual left n
+after-turns w root residual left n so = record {
+  so-far = so;
+  room = λ h.
+      let i : n ≤ 53 = omega arith in
+      let a = lt-of-lt-of-le (so .digits) (two-le n 53 i) in
+      record { for-root = a; for-residual = omega (arith, so .small) };
+  whole = λ h.
+      let a : 4 ^ n ≡ 4 ^ 54 = ap (λ (x : ℕ). 4 ^ x) h in
+      let e : root * root + residual ≡ w * 2 ^ 44 = omega (arith, so .sum, so .rest, ap (λ (x : ℕ). w * x) a) in
+      is-isqrt (w * 2 ^ 44) root (record { low = omega arith; high = omega (arith, so .small) });
+}
 
 pub exact-sound : Sound exact-source
 exact-sound = record {
