@@ -45,3 +45,17 @@ fn digit_root(word: u64) -> u64
     }
     root
 }
+
+#[cfg(test)]
+mod tests {
+    use super::*;
+    use std::test::*;
+
+    #[test]
+    fn roots() -> Result<(), Fail> {
+        check_eq(DigitSource.propose(1 << 62), Some(1 << 53))?;
+        check_eq(DigitSource.propose(1 << 63), Some(0x2d_413c_ccfe_7799))?;
+        check_eq(DigitSource.propose(u64::MAX), Some((1 << 54) - 1))?;
+        check_eq(DigitSource.propose((1 << 62) - 1), None)
+    }
+}

@@ -112,3 +112,42 @@ fn quotient(word: u64, guess: u64) -> u128
 {
     ((word as u128) << 44) / guess as u128
 }
+
+#[cfg(test)]
+mod tests {
+    use super::*;
+    use crate::digit::DigitRootSource;
+    use crate::digit::DigitSource;
+    use crate::table::TableRootSource;
+    use crate::table::TableSource;
+    use std::test::*;
+
+    fn refined<S: RootSource + Drop>(below: S, steps: u32) -> Result<Refiner<S>, Fail> {
+        match Refiner::new(below, steps) {
+            Ok(refiner) => Ok(refiner),
+            Err(refusal) => Err(Fail::new(refusal.number())),
+        }
+    }
+
+    #[test]
+    fn grades() -> Result<(), Fail> {
+        check_eq(refined(TableSource, 2)?.grade(), 29)?;
+        check_eq(refined(TableSource, 3)?.grade(), 5)?;
+        check_eq(refined(refined(TableSource, 1)?, 2)?.grade(), 5)
+    }
+
+    #[test]
+    fn refusals() -> Result<(), Fail> {
+        check(Refiner::new(DigitSource, 0).is_err())?;
+        check(Refiner::new(DigitSource, 5).is_err())
+    }
+
+    // The grade 0 allows a distance of 1, and a step from the root may take it.
+    #[test]
+    fn grade_zero_is_not_exact() -> Result<(), Fail> {
+        let word = (1 << 62) + 1024;
+        check_eq(refined(DigitSource, 1)?.propose(word), Some((1 << 53) + 1))?;
+        check_eq(refined(DigitSource, 2)?.propose(word), Some(1 << 53))?;
+        check_eq(refined(DigitSource, 3)?.propose(word), Some((1 << 53) + 1))
+    }
+}

@@ -238,3 +238,16 @@ const BYTE_ROOTS: [u16; 192] = [
     16319,
     16351,
 ];
+
+#[cfg(test)]
+mod tests {
+    use super::*;
+    use std::test::*;
+
+    #[test]
+    fn entries() -> Result<(), Fail> {
+        check_eq(TableSource.grade(), 47)?;
+        check_eq(TableSource.propose(1 << 62), Some(1 << 53))?;
+        check_eq(TableSource.propose(u64::MAX), Some(16351 << 40))
+    }
+}
