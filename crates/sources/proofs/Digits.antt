@@ -4,10 +4,10 @@ use Prim.Native.Nat.{ℕ, _+_, _-_, _*_, _/_, _%_, _^_, _≤_, _<_}
 use native.Mathlib.Nat.{lt-of-lt-of-le}
 use native.Mathlib.Omega.{arith}
 use lib.Pow.{pow-add}
-use Rattle.exact.specs.Root.{Floor-root, isqrt}
+use Rattle.exact.specs.Root.{isqrt}
 use Rattle.exact.proofs.Roots.{is-isqrt, isqrt-is, root-unique}
 use Rattle.exact.proofs.Squares.{two-le}
-use Rattle.sources.specs.Source.{Word, Within, Sound, exact-source}
+use Rattle.sources.specs.Source.{Sound, exact-source}
 use Rattle.sources.proofs.Words.{root-least, root-most}
 
 -- after n turns: 2 * n bits of the word are brought down and the others are left, at the top of 64 bits

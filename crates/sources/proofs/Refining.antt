@@ -2,16 +2,16 @@
 use mathlib.Core.Path.{_≡_, refl, sym, ap, _∙_, subst}
 use mathlib.Core.Logic.{_⊎_, inl, inr}
 use mathlib.Core.Bool.{cond}
-use Prim.Native.Nat.{ℕ, zero, suc, min, _+_, _-_, _*_, _/_, _^_, _≤_, _<_}
+use Prim.Native.Nat.{ℕ, zero, suc, _+_, _-_, _*_, _/_, _^_, _≤_, _<_}
 use native.Mathlib.Nat.{mul-le-mul, mul-le-mul-right, mul-le-mul-left, div-mul-le-self, lt-div-mul-add, le-trans}
 use native.Mathlib.Omega.{arith}
 use lib.Pow.{pow-add, pow-pos}
 use borrow.Author.Tests.{le-leb, lt-leb}
-use Rattle.exact.specs.Root.{Floor-root, isqrt}
+use Rattle.exact.specs.Root.{isqrt}
 use Rattle.exact.proofs.Roots.{isqrt-is}
 use Rattle.exact.proofs.Squares.{le-unless, lt-or-le, squares-le, two-le}
-use Rattle.sources.specs.Source.{Word, Word-root, Within, Source, Sound}
-use Rattle.sources.specs.Refined.{word-quotient, refined-guess, refined-grade, repeated, refined}
+use Rattle.sources.specs.Source.{Word, Word-root, Source, Sound}
+use Rattle.sources.specs.Refined.{word-quotient, refined-guess, refined-grade, repeated, refined, Step-error}
 use Rattle.sources.proofs.Words.{root-least, root-most}
 
 -- four times a product is at most the square of the sum
@@ -43,7 +43,7 @@ module _ (w s g : ℕ) (root : Word-root w s) (G : 2 ^ 53 ≤ g) where
       let a : word-quotient w g + 1 + g ≤ 2 * s = omega arith in
       omega (arith, four-products (word-quotient w g + 1) g, mul-le-mul a a, quotient-high, root .low))
 
-  -- were the mean above s + e, then 2 * e * g would be less than the square of the distance x of g and s + 1
+  -- a mean above s + e would put 2 * e * g below the square of the distance from g to s + 1
   too-far : (e : ℕ) → s + e < mean → (2 * (s + 1) + 2 * e) * g < g * g + (s + 1) * (s + 1)
   too-far e h =
       let a : (2 * (s + 1) + 2 * e) * g ≤ (g + word-quotient w g) * g = mul-le-mul-right g (omega arith) in
@@ -61,46 +61,39 @@ module _ (w s g : ℕ) (root : Word-root w s) (G : 2 ^ 53 ≤ g) where
       let b = subst (λ (z : ℕ). (2 * z + 2 * e) * g < g * g + z * z) q a in
       omega (arith, b, X, mul-le-mul-left e G))
 
--- the error of a step from a guess that lies at most d from the root
-module _ (w s g d : ℕ) (word : Word w) (root : Word-root w s) (G : 2 ^ 53 ≤ g) (near : Within d s g) where
-  -- never below the root
-  pub step-least : s ≤ refined-guess w g
-  step-least = omega (arith, mean-least w s g root G, root-most w s word root)
+pub step-error : Step-error
+step-error w s g d e word root G near h = (omega (arith, mean-least w s g root G, root-most w s word root), go (apart g (s + 1)))
+  where
+    go : (x : ℕ) × ((g ≡ s + 1 + x) ⊎ (s + 1 ≡ g + x)) × (x ≤ g - (s + 1) + (s + 1 - g)) → refined-guess w g ≤ s + e
+    go (x, sides, X) =
+        let a : x ≤ d + 1 = omega (arith, near .above, near .below) in
+        omega (arith, mean-most w s g root G e x (le-trans (squares-le x (d + 1) a) h) sides)
 
-  -- and above it by at most (d + 1) ^ 2 / 2 ^ 54, rounded up to a whole number e
-  pub step-most : (e : ℕ) → (d + 1) * (d + 1) ≤ e * 2 ^ 54 → refined-guess w g ≤ s + e
-  step-most e h = go (apart g (s + 1))
-    where
-      go : (x : ℕ) × ((g ≡ s + 1 + x) ⊎ (s + 1 ≡ g + x)) × (x ≤ g - (s + 1) + (s + 1 - g)) → refined-guess w g ≤ s + e
-      go (x, sides, X) =
-          let a : x ≤ d + 1 = omega (arith, near .above, near .below) in
-          omega (arith, mean-most w s g root G e x (le-trans (squares-le x (d + 1) a) h) sides)
+grade-is : (c : ℕ) → ((c ≤ 26) × (refined-grade c ≡ 0)) ⊎ ((27 ≤ c) × (refined-grade c ≡ 2 * c - 53))
+grade-is c =
+    elim (lt-or-le 26 c) [
+      | inl h ↦ inr (omega arith, ap (λ b. cond b 0 (2 * c - 53)) (lt-leb c 26 h))
+      | inr h ↦ inl (h, ap (λ b. cond b 0 (2 * c - 53)) (le-leb c 26 h))
+    ]
 
--- so a grade of c becomes 2 * c - 53, or 0 where a step leaves at most 1
+-- so from the grade c, within 2 ^ c of the root, a step comes within 1 or 2 ^ (2 * c - 53)
 grade-rule : (c : ℕ) → (2 ^ c + 1) * (2 ^ c + 1) ≤ 2 ^ refined-grade c * 2 ^ 54
 grade-rule c =
-    elim (lt-or-le 26 c) [
+    elim (grade-is c) [
       | inl h ↦
-          let f : refined-grade c ≡ 2 * c - 53 = ap (λ b. cond b 0 (2 * c - 53)) (lt-leb c 26 h) in
+          let a : 2 ^ c + 1 ≤ 2 ^ 26 + 1 = omega (arith, two-le c 26 (h .0)) in
+          subst (λ (x : ℕ). (2 ^ c + 1) * (2 ^ c + 1) ≤ 2 ^ x * 2 ^ 54) (sym (h .1)) (omega (arith, squares-le (2 ^ c + 1) (2 ^ 26 + 1) a))
+      | inr h ↦
           let a : 2 ^ (2 * c - 53) * 2 ^ 54 ≡ 2 * (2 ^ c * 2 ^ c) =
           sym (pow-add 2 (2 * c - 53) 54) ∙ ap (λ (x : ℕ). 2 ^ x) {y = c + c + 1} (omega arith) ∙ pow-add 2 (c + c) 1 ∙ omega (arith, pow-add 2 c c) in
-          let i : 27 ≤ c = omega arith in
-          let b : 2 ^ 27 * 2 ^ c ≤ 2 ^ c * 2 ^ c = mul-le-mul-right (2 ^ c) (two-le 27 c i) in
-          subst (λ (x : ℕ). (2 ^ c + 1) * (2 ^ c + 1) ≤ 2 ^ x * 2 ^ 54) (sym f) (omega (arith, a, b, pow-pos c))
-      | inr h ↦
-          let f : refined-grade c ≡ 0 = ap (λ b. cond b 0 (2 * c - 53)) (le-leb c 26 h) in
-          let a : 2 ^ c + 1 ≤ 2 ^ 26 + 1 = omega (arith, two-le c 26 h) in
-          subst (λ (x : ℕ). (2 ^ c + 1) * (2 ^ c + 1) ≤ 2 ^ x * 2 ^ 54) (sym f) (omega (arith, squares-le (2 ^ c + 1) (2 ^ 26 + 1) a))
+          let b : 2 ^ 27 * 2 ^ c ≤ 2 ^ c * 2 ^ c = mul-le-mul-right (2 ^ c) (two-le 27 c (h .0)) in
+          subst (λ (x : ℕ). (2 ^ c + 1) * (2 ^ c + 1) ≤ 2 ^ x * 2 ^ 54) (sym (h .1)) (omega (arith, a, b, pow-pos c))
     ]
 
 pub grade-most : (c : ℕ) → c ≤ 53 → refined-grade c ≤ 53
-grade-most c h =
-    elim (lt-or-le 26 c) [
-      | inl k ↦ let f : refined-grade c ≡ 2 * c - 53 = ap (λ b. cond b 0 (2 * c - 53)) (lt-leb c 26 k) in omega (arith, f)
-      | inr k ↦ let f : refined-grade c ≡ 0 = ap (λ b. cond b 0 (2 * c - 53)) (le-leb c 26 k) in omega (arith, f)
-    ]
+grade-most c h = elim (grade-is c) [ inl k ↦ omega (arith, k .1) | inr k ↦ omega (arith, k .1) ]
 
--- a step keeps a guess of 54 bits at 54 bits
+-- a step from 54 bits does not end below 54 bits
 pub guess-least : (w g : ℕ) → Word w → 2 ^ 53 ≤ g → 2 ^ 53 ≤ refined-guess w g
 guess-least w g word G =
     let s = isqrt (w * 2 ^ 44) in
@@ -120,13 +113,10 @@ refined-once source sound = record {
   graded = grade-most (source .grade) (sound .graded);
   least = λ w word. guess-least w (source .proposal w) word (sound .least w word);
   most = λ w word. omega arith;
-  near = λ w s word root. 
-      let near = sound .near w s word root in
-      let G = sound .least w word in
-      record {
-        above = step-most w s (source .proposal w) (2 ^ source .grade) word root G near (2 ^ refined-grade (source .grade)) (grade-rule (source .grade));
-        below = omega (arith, step-least w s (source .proposal w) (2 ^ source .grade) word root G near);
-      };
+  near = λ w s word root.
+      let c = source .grade in
+      let r = step-error w s (source .proposal w) (2 ^ c) (2 ^ refined-grade c) word root (sound .least w word) (sound .near w s word root) (grade-rule c) in
+      record { above = r .1; below = omega (arith, r .0) };
 }
 
 -- steps keep a source sound

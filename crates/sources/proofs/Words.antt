@@ -1,7 +1,6 @@
 -- The root of a word has 54 bits, since the radicand lies between 2 ^ 106 and 2 ^ 108.
-use Prim.Native.Nat.{ℕ, _+_, _*_, _^_, _≤_, _<_}
+use Prim.Native.Nat.{ℕ, _+_, _^_, _≤_, _<_}
 use native.Mathlib.Omega.{arith}
-use Rattle.exact.specs.Root.{Floor-root}
 use Rattle.exact.proofs.Squares.{lt-of-squares}
 use Rattle.sources.specs.Source.{Word, Word-root}
 

@@ -1,8 +1,8 @@
 -- Refining: steps by Newton's rule on proposals, and what they make of a source.
 use mathlib.Core.Bool.{cond}
-use Prim.Native.Nat.{ℕ, zero, suc, min, _+_, _-_, _*_, _/_, _^_}
+use Prim.Native.Nat.{ℕ, zero, suc, min, _+_, _-_, _*_, _/_, _^_, _≤_}
 use lib.Dec.{leb}
-use Rattle.sources.specs.Source.{Source}
+use Rattle.sources.specs.Source.{Source, Word, Word-root, Within}
 
 -- the radicand of the word w over a guess g
 abbrev pub word-quotient : ℕ → ℕ → ℕ
@@ -27,3 +27,9 @@ refined steps source = record {
   grade = repeated steps refined-grade (source .grade);
   proposal = λ w. repeated steps (refined-guess w) (source .proposal w);
 }
+
+-- A step from a guess g that lies at most d from the root s of the word w never ends below the root,
+-- and above it by at most (d + 1) ^ 2 / 2 ^ 54, rounded up to a whole number e.
+abbrev pub Step-error : Type 0
+Step-error = (w s g d e : ℕ) → Word w → Word-root w s → 2 ^ 53 ≤ g → Within d s g → (d + 1) * (d + 1) ≤ e * 2 ^ 54
+    → (s ≤ refined-guess w g) × (refined-guess w g ≤ s + e)

@@ -3,3 +3,4 @@ pub mod digit;
 pub mod refiner;
 pub mod root_source;
 pub mod table;
+pub mod theorems;

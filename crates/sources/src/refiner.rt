@@ -1,7 +1,12 @@
 //! Refiners: sources that take Newton steps from the proposals of the source below.
+//!
+//! A step from a guess that lies at most `d` from the root never ends below the root, and above it
+//! by at most `(d + 1)^2 / 2^54`, rounded up. So it turns a grade `c` into `2c - 53`, or into 0
+//! where `c` is at most 26.
 ghost use mathlib.Core.Path.{_≡_};
 ghost use Prim.Native.Nat.{_^_, _<_, _≤_};
 ghost use Rattle.std.specs.Results.{Cases};
+ghost use Rattle.std.specs.Vec.{made};
 ghost use Rattle.sources.specs.Refined.{word-quotient, refined-guess, refined-grade, repeated, refined};
 ghost use Rattle.sources.specs.Refiner.{Step-count, steps-refused};
 use crate::root_source::RootSource;
@@ -30,9 +35,12 @@ impl<S> StepsRefused<S> {
 }
 
 impl<S: RootSource> Refiner<S> {
-    /// The source below with a number of steps, which is 1 to 4.
+    /// The source below with 1 to 4 steps. Any other number is refused, and the source given back
+    /// as it was.
     pub fn new(below: S, steps: u32) -> Result<Refiner<S>, StepsRefused<S>>
-        ensures { λ r. ⌜ Cases r (λ f. Step-count steps × (f .below ≡ below) × (f .steps ≡ steps)) (λ e. (Step-count steps → ⊥) × (e .below ≡ below)) ⌝ }
+        ensures counted { λ r. ⌜ Cases r (λ _. Step-count steps) (λ _. Step-count steps → ⊥) ⌝ }
+        ensures source { λ r. ⌜ Cases r (λ f. f .below ≡ below) (λ e. e .below ≡ below) ⌝ }
+        ensures steps { λ r. ⌜ made r (λ f. f .steps ≡ steps) ⌝ }
     {
         if steps < 1 || steps > 4 {
             return Err(StepsRefused { below });
@@ -95,7 +103,7 @@ fn guess_after(word: u64, proposal: u64, steps: u32) -> u64
     guess
 }
 
-// A step: the mean of the guess and the word's radicand over it, kept below 2^54.
+// A step: the mean of the guess and the word's radicand over it, kept below `2^54`.
 fn step(word: u64, guess: u64) -> u64
     requires least { ⌜ 2 ^ 53 ≤ guess ⌝ }
     requires most { ⌜ guess < 2 ^ 54 ⌝ }
@@ -122,7 +130,7 @@ mod tests {
     use crate::table::TableSource;
     use std::test::*;
 
-    fn refined<S: RootSource + Drop>(below: S, steps: u32) -> Result<Refiner<S>, Fail> {
+    fn with_steps<S: RootSource + Drop>(below: S, steps: u32) -> Result<Refiner<S>, Fail> {
         match Refiner::new(below, steps) {
             Ok(refiner) => Ok(refiner),
             Err(refusal) => Err(Fail::new(refusal.number())),
@@ -131,23 +139,35 @@ mod tests {
 
     #[test]
     fn grades() -> Result<(), Fail> {
-        check_eq(refined(TableSource, 2)?.grade(), 29)?;
-        check_eq(refined(TableSource, 3)?.grade(), 5)?;
-        check_eq(refined(refined(TableSource, 1)?, 2)?.grade(), 5)
+        check_eq(with_steps(TableSource, 2)?.grade(), 29)?;
+        check_eq(with_steps(TableSource, 3)?.grade(), 5)?;
+        check_eq(with_steps(with_steps(TableSource, 1)?, 2)?.grade(), 5)
     }
 
     #[test]
     fn refusals() -> Result<(), Fail> {
-        check(Refiner::new(DigitSource, 0).is_err())?;
-        check(Refiner::new(DigitSource, 5).is_err())
+        check(Refiner::new(TableSource, 0).is_err())?;
+        match Refiner::new(TableSource, 5) {
+            Ok(_) => Err(Fail::new("five steps")),
+            Err(refusal) => {
+                check_eq(refusal.number(), 1)?;
+                check_eq(refusal.below.grade(), 47)
+            }
+        }
     }
 
     // The grade 0 allows a distance of 1, and a step from the root may take it.
     #[test]
     fn grade_zero_is_not_exact() -> Result<(), Fail> {
         let word = (1 << 62) + 1024;
-        check_eq(refined(DigitSource, 1)?.propose(word), Some((1 << 53) + 1))?;
-        check_eq(refined(DigitSource, 2)?.propose(word), Some(1 << 53))?;
-        check_eq(refined(DigitSource, 3)?.propose(word), Some((1 << 53) + 1))
+        check_eq(
+            with_steps(DigitSource, 1)?.propose(word),
+            Some((1 << 53) + 1),
+        )?;
+        check_eq(with_steps(DigitSource, 2)?.propose(word), Some(1 << 53))?;
+        check_eq(
+            with_steps(DigitSource, 3)?.propose(word),
+            Some((1 << 53) + 1),
+        )
     }
 }

@@ -1,7 +1,8 @@
 //! The source that looks up the root of a word's leading byte.
 //!
-//! Its proposal lies at most `2^46 + 2^40` from the root: by that much the roots of two words with
-//! the same leading byte may differ, and an entry may lie below the root of the byte.
+//! Its proposal is never above the root, and at most `2^46 + 2^40` below it: an entry is cut to a
+//! whole number, which takes less than `2^40`, and the bits behind the leading byte add less than
+//! `2^100` to the radicand, so less than `2^46` to a root of 54 bits.
 ghost use mathlib.Core.Bool.{true};
 ghost use mathlib.Core.Path.{_≡_};
 ghost use Prim.Native.Nat.{_<_, _≤_};
