@@ -37,11 +37,11 @@ fn byte_root(byte: u64) -> u16
     byte_roots()[(byte - 64) as usize]
 }
 
-// The table, with its rule.
-fn byte_roots() -> [u16; 192]
-    ensures rule { λ r. ⌜ are-byte-roots 64 r ≡ true ⌝ }
+// The table, lent with its rule.
+fn byte_roots() -> &'static [u16; 192]
+    ensures rule { λ r. ⌜ are-byte-roots 64 (now r) ≡ true ⌝ }
 {
-    BYTE_ROOTS
+    &BYTE_ROOTS
 }
 
 // For each byte from 64 to 255 the largest number whose square is at most `byte * 2^20`.
