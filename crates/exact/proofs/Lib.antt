@@ -5,5 +5,6 @@ pub mod Ulps
 pub mod Lengths
 pub mod Nearness
 pub mod Values
+pub mod Tops
 pub mod Bits
 pub mod Words

@@ -9,9 +9,9 @@ use lib.Pow.{pow-add, pow-pos}
 use Rattle.exact.specs.declared.form.Form.{Form}
 use Rattle.exact.specs.Value.{Value, In-range, units, largest-value}
 use Rattle.exact.specs.Length.{Ulp, Nearest-whole, Length, kept, carried}
-use Rattle.exact.specs.Nearest.{At-least-as-far, Nearest, Length-is-nearest, Nearest-is-unique, Length-is-value, Length-is-beyond}
-use Rattle.exact.proofs.Squares.{le-unless, lt-or-le, two-half, square-at, multiple}
-use Rattle.exact.proofs.Ulps.{rounded-most, rounded-least, significand-full}
+use Rattle.exact.specs.Nearest.{At-least-as-far, Nearest, Length-is-nearest, Nearest-is-unique, Length-is-value, Value-is-length}
+use Rattle.exact.proofs.Squares.{squares-le, le-unless, lt-or-le, four-two, four-pos, two-le, two-half, square-at, multiple}
+use Rattle.exact.proofs.Ulps.{rounded-most, significand-full}
 use Rattle.exact.proofs.Nearness.{smaller, as-far, tie-even}
 
 -- 2 ^ p at an exponent is 2 ^ (p - 1) at the next
@@ -25,7 +25,7 @@ pub record Normal (p k e : ℕ) : Type 0 where
 
 pub length-normal : (p n k e : ℕ) → 1 ≤ p → Length p n k e → Normal p k e
 length-normal p n k e P (kept u h s) = record { short = s; full = significand-full p n e u k P h }
-length-normal p n k f P (carried u h) = record { short = omega (arith, two-half p P, pow-pos (p - 1)); full = λ _. le-refl _ }
+length-normal p n k f P (carried _ u h) = record { short = omega (arith, two-half p P, pow-pos (p - 1)); full = λ _. le-refl _ }
 
 -- of two such numbers, one with a larger exponent is larger
 pub larger : (p k e j f : ℕ) → 1 ≤ p → Normal p k e → Normal p j f → e < f → units k e < units j f
@@ -38,10 +38,10 @@ same-parts p k e j f P a b q =
     (eq-of-mul-eq-mul-right (2 ^ f) (pow-pos f) k j (subst (λ (x : ℕ). k * 2 ^ x ≡ j * 2 ^ f) E q), E)
 
 module _ (form : Form) (ok : In-range form) where
-  some-bits : 1 ≤ form .precision
+  pub some-bits : 1 ≤ form .precision
   some-bits = omega (arith, ok .precision-least)
 
-  largest-normal : Normal (form .precision) (form .largest) (form .span)
+  pub largest-normal : Normal (form .precision) (form .largest) (form .span)
   largest-normal = record { short = ok .largest-most; full = λ _. ok .largest-least }
 
   value-normal : (k e : ℕ) → Value form k e → Normal (form .precision) k e
@@ -65,7 +65,7 @@ module _ (form : Form) (ok : In-range form) where
       ]
 
   -- the largest value is a multiple of 2 ^ e where the root of n, at most the largest value, has its last place there
-  span-most : (n e : ℕ) → Ulp (form .precision) n e → n ≤ largest-value form * largest-value form → e ≤ form .span
+  pub span-most : (n e : ℕ) → Ulp (form .precision) n e → n ≤ largest-value form * largest-value form → e ≤ form .span
   span-most n e u h =
       let a : largest-value form < 2 ^ form .precision * 2 ^ form .span = mul-lt-mul-of-pos-right (ok .largest-most) (pow-pos (form .span)) in
       u .least (form .span) (subst (λ (x : ℕ). n < x) (sym (square-at (form .precision) (form .span))) (lt-of-le-of-lt h (mul-lt _ _ _ _ a a)))
@@ -82,7 +82,7 @@ length-is-value form ok n k e l h = normal-value form ok k e (length-normal (for
 
 pub length-within : (form : Form) → In-range form → (n k e : ℕ) → Length (form .precision) n k e → n ≤ largest-value form * largest-value form → units k e ≤ largest-value form
 length-within form ok n k e (kept u h s) b = rounds-within form ok n k e u h b
-length-within form ok n k f (carried {e} u h) b =
+length-within form ok n k f (carried {e} P u h) b =
     subst (λ (x : ℕ). x ≤ largest-value form) (sym (carry-units (form .precision) e (some-bits form ok))) (rounds-within form ok n (2 ^ form .precision) e u h b)
 
 pub length-is-nearest : Length-is-nearest
@@ -91,8 +91,8 @@ length-is-nearest form ok n k e (kept u h s) b = record {
   nearest = λ j f v. as-far (form .precision) n k e (some-bits form ok) u h j f (v .short);
   even = λ j f v. tie-even (form .precision) n k e (some-bits form ok) u h j f (v .short);
 }
-length-is-nearest form ok n k f (carried {e} u h) b = record {
-  value = length-is-value form ok n k f (carried u h) (length-within form ok n k f (carried u h) b);
+length-is-nearest form ok n k f (carried {e} P u h) b = record {
+  value = length-is-value form ok n k f (carried P u h) (length-within form ok n k f (carried P u h) b);
   nearest = λ j g v. subst (λ (x : ℕ). At-least-as-far n x (units j g)) (sym same) (as-far (form .precision) n (2 ^ form .precision) e (some-bits form ok) u h j g (v .short));
   even = λ _ _ _ _ _. half-even;
 }
@@ -103,24 +103,41 @@ length-is-nearest form ok n k f (carried {e} u h) b = record {
     half-even : 2 ^ (form .precision - 1) % 2 ≡ 0
     half-even = omega (arith, two-half (form .precision - 1) (omega (arith, ok .precision-least)))
 
--- a root above the largest value rounds to the largest value at least
-rounds-beyond : (form : Form) → In-range form → (n k e : ℕ) → Ulp (form .precision) n e → Nearest-whole n e k
-    → largest-value form * largest-value form < n → largest-value form ≤ k * 2 ^ e
-rounds-beyond form ok n k e u h b =
-    elim (lt-or-le (form .span) e) [
-      | inl g ↦
-          let a = smaller (form .precision) (form .largest) (form .span) e (some-bits form ok) g (ok .largest-most) in
-          omega (arith, a, mul-le-mul-right (2 ^ e) (significand-full (form .precision) n e u k (some-bits form ok) h (omega arith)))
-      | inr g ↦
-          let m = multiple (form .largest) e (form .span) g in
-          let c : m .0 ≤ k = rounded-least n e k (m .0) h (subst (λ (x : ℕ). x * x ≤ n) (m .1) (omega arith)) in
-          subst (λ (x : ℕ). x ≤ k * 2 ^ e) (sym (m .1)) (mul-le-mul-right (2 ^ e) c)
-    ]
+-- a value's root is the value itself, and lies on no half
+pub value-is-length : Value-is-length
+value-is-length form ok k e v = kept (record { fits = fits; least = least }) whole (v .short)
+  where
+    p : ℕ
+    p = form .precision
 
-pub length-is-beyond : Length-is-beyond
-length-is-beyond form ok n k e (kept u h s) b = rounds-beyond form ok n k e u h b
-length-is-beyond form ok n k f (carried {e} u h) b =
-    subst (λ (x : ℕ). largest-value form ≤ x) (sym (carry-units (form .precision) e (some-bits form ok))) (rounds-beyond form ok n (2 ^ form .precision) e u h b)
+    fits : units k e * units k e < 4 ^ (p + e)
+    fits =
+        let a : units k e < 2 ^ p * 2 ^ e = mul-lt-mul-of-pos-right (v .short) (pow-pos e) in
+        subst (λ (x : ℕ). units k e * units k e < x) (sym (square-at p e)) (mul-lt _ _ _ _ a a)
+
+    least : (f : ℕ) → units k e * units k e < 4 ^ (p + f) → e ≤ f
+    least f h = le-unless e f (λ (g : f < e).
+        let a : 2 ^ p * 2 ^ f ≤ units k e = full-reaches g in
+        omega (arith, squares-le _ _ a, h, square-at p f))
+      where
+        full-reaches : f < e → 2 ^ p * 2 ^ f ≤ units k e
+        full-reaches g =
+            let a : 2 ^ (p + f) ≤ 2 ^ (p - 1 + e) = two-le (p + f) (p - 1 + e) (omega (arith, g, some-bits form ok)) in
+            omega (arith, a, pow-add 2 p f, pow-add 2 (p - 1) e, mul-le-mul-right (2 ^ e) (v .full (omega arith)))
+
+    square : 4 * (units k e * units k e) ≡ 2 * k * (2 * k) * 4 ^ e
+    square = omega (arith, ap (λ (x : ℕ). k * k * x) (four-two e))
+
+    strictly : (a b : ℕ) → a < b → a * a * 4 ^ e < b * b * 4 ^ e
+    strictly a b h = mul-lt-mul-of-pos-right (mul-lt a a b b h h) (four-pos e)
+
+    whole : Nearest-whole (units k e * units k e) e k
+    whole = record {
+      low = λ pos. let h = strictly (2 * k - 1) (2 * k) (omega arith) in omega (arith, h, square);
+      high = let h = strictly (2 * k) (2 * k + 1) (omega arith) in omega (arith, h, square);
+      even-low = λ pos q. let h = strictly (2 * k - 1) (2 * k) (omega arith) in absurd (omega (arith, h, square, q));
+      even-high = λ q. let h = strictly (2 * k) (2 * k + 1) (omega arith) in absurd (omega (arith, h, square, q));
+    }
 
 -- Two nearest values would be equally far, with both significands even; but after an even k comes the value k + 1, which is odd.
 module _ (form : Form) (ok : In-range form) (n k e j f : ℕ) (a : Nearest form n k e) (b : Nearest form n j f) (h : units k e < units j f) where

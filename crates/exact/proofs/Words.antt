@@ -48,10 +48,10 @@ module _ (p n c e k : ℕ) (word : n < 2 ^ 64) (ceil : c ≡ (64 - leadingZeros 
   nearest : Nearest-whole n e k
   nearest = subst (Nearest-whole n e) (sym rounds) (rounded-root-is n e)
 
-  pub carried-length : (h : ℕ) → p < 64 → k ≡ 1 * 2 ^ p % 2 ^ 64 → h ≡ p - 1 → Length p n (1 * 2 ^ h % 2 ^ 64) (e + 1)
-  carried-length h P q half =
+  pub carried-length : (h : ℕ) → 1 ≤ p → p < 64 → k ≡ 1 * 2 ^ p % 2 ^ 64 → h ≡ p - 1 → Length p n (1 * 2 ^ h % 2 ^ 64) (e + 1)
+  carried-length h some P q half =
       let s : 1 * 2 ^ h % 2 ^ 64 ≡ 2 ^ (p - 1) = one-shl h 64 (omega arith) ∙ ap (λ (x : ℕ). 2 ^ x) half in
-      subst (λ (x : ℕ). Length p n x (e + 1)) (sym s) (carried ulp (subst (Nearest-whole n e) (q ∙ one-shl p 64 P) nearest))
+      subst (λ (x : ℕ). Length p n x (e + 1)) (sym s) (carried some ulp (subst (Nearest-whole n e) (q ∙ one-shl p 64 P) nearest))
 
   pub kept-length : k < 2 ^ 64 → ((p < 64) × (k ≡ 1 * 2 ^ p % 2 ^ 64 → ⊥)) ⊎ (64 ≤ p) → Length p n k e
   kept-length small (inl (P, other)) =

@@ -23,15 +23,15 @@ pub record Nearest-whole (n e k : ℕ) : Type 0 where
 -- k * 2 ^ e is the length of the root of n at the precision p
 pub data Length (p n : ℕ) : ℕ → ℕ → Type 0 where
   kept : {k e : ℕ} → Ulp p n e → Nearest-whole n e k → k < 2 ^ p → Length p n k e
-  -- 2 ^ p is one bit too long, and is 2 ^ (p - 1) one exponent up
-  carried : {e : ℕ} → Ulp p n e → Nearest-whole n e (2 ^ p) → Length p n (2 ^ (p - 1)) (e + 1)
+  -- 2 ^ p is one bit too long, and the same number is 2 ^ (p - 1) one exponent up
+  carried : {e : ℕ} → 1 ≤ p → Ulp p n e → Nearest-whole n e (2 ^ p) → Length p n (2 ^ (p - 1)) (e + 1)
 
 -- The same, computed.
 
 unfoldable pub ulp-exponent : ℕ → ℕ → ℕ
 ulp-exponent p n = (size n + 1) / 2 - p
 
--- the nearest whole number to half of d, or of a little more than d where the remainder is not zero; at a tie the even one
+-- the nearest whole number to half of d, at a tie the even one; where d is not exact, to half of a little more than d
 abbrev pub half-to-even : ℕ → Bool → ℕ
 half-to-even d exact = cond (exact && eqb (d % 2) 1) ((d / 2 + 1) / 2 * 2) ((d + 1) / 2)
 

@@ -1,6 +1,6 @@
 -- Nearness to a root, and what is proved of the length.
 use mathlib.Core.Path.{_≡_}
-use Prim.Native.Nat.{ℕ, _+_, _*_, _%_, _≤_, _<_}
+use Prim.Native.Nat.{ℕ, _+_, _*_, _%_, _^_, _≤_, _<_}
 use Rattle.exact.specs.declared.form.Form.{Form}
 use Rattle.exact.specs.Value.{Value, In-range, units, largest-value}
 use Rattle.exact.specs.Length.{Length, length-significand, length-exponent}
@@ -20,7 +20,7 @@ pub record Nearest (form : Form) (n k e : ℕ) : Type 0 where
 
 -- every radicand has a length, the computed one
 abbrev pub Length-exists : Type 0
-Length-exists = (p n : ℕ) → Length p n (length-significand p n) (length-exponent p n)
+Length-exists = (p n : ℕ) → 1 ≤ p → Length p n (length-significand p n) (length-exponent p n)
 
 -- and no other
 abbrev pub Length-is-unique : Type 0
@@ -40,7 +40,22 @@ abbrev pub Length-is-value : Type 0
 Length-is-value = (form : Form) → In-range form → (n k e : ℕ) → Length (form .precision) n k e
     → units k e ≤ largest-value form → Value form k e
 
--- where the root is above the largest value, so is the length, or it is the largest value
-abbrev pub Length-is-beyond : Type 0
-Length-is-beyond = (form : Form) → In-range form → (n k e : ℕ) → Length (form .precision) n k e
-    → largest-value form * largest-value form < n → largest-value form ≤ units k e
+-- a value is the length of its own square's root
+abbrev pub Value-is-length : Type 0
+Value-is-length = (form : Form) → In-range form → (k e : ℕ) → Value form k e → Length (form .precision) (units k e * units k e) k e
+
+-- four times the square of the middle between the largest value and the next number in its last place
+abbrev pub top-middle : Form → ℕ
+top-middle form = (2 * form .largest + 1) * (2 * form .largest + 1) * 4 ^ form .span
+
+-- what the length of a root above the largest value is: the largest value where the root lies below that middle, or on it
+-- and the largest significand is even; else it lies beyond
+pub record Rounds-at-top (form : Form) (n k e : ℕ) : Type 0 where
+  pub below : 4 * n < top-middle form → units k e ≡ largest-value form
+  pub on-even : 4 * n ≡ top-middle form → form .largest % 2 ≡ 0 → units k e ≡ largest-value form
+  pub on-odd : 4 * n ≡ top-middle form → form .largest % 2 ≡ 1 → largest-value form < units k e
+  pub above : top-middle form < 4 * n → largest-value form < units k e
+
+abbrev pub Length-at-top : Type 0
+Length-at-top = (form : Form) → In-range form → (n k e : ℕ) → Length (form .precision) n k e
+    → largest-value form * largest-value form < n → Rounds-at-top form n k e

@@ -34,3 +34,14 @@ pub record In-range (form : Form) : Type 0 where
   -- the largest significand has p bits
   pub largest-least : 2 ^ (form .precision - 1) ≤ form .largest
   pub largest-most : form .largest < 2 ^ form .precision
+
+-- the limits of the parameters, from inside and from outside
+pub record Limits : Type 0 where
+  pub widest : In-range (record { precision = 53; least = negsuc 1999; span = 4000; largest = 2 ^ 53 - 1 })
+  pub narrowest : In-range (record { precision = 2; least = pos 2000; span = 0; largest = 2 })
+  pub not-longer : In-range (record { precision = 54; least = pos 0; span = 0; largest = 2 ^ 53 }) → ⊥
+  pub not-shorter : In-range (record { precision = 1; least = pos 0; span = 0; largest = 1 }) → ⊥
+  pub not-lower : In-range (record { precision = 53; least = negsuc 2000; span = 0; largest = 2 ^ 53 - 1 }) → ⊥
+  pub not-higher : In-range (record { precision = 53; least = pos 0; span = 2001; largest = 2 ^ 53 - 1 }) → ⊥
+  pub not-larger : In-range (record { precision = 53; least = pos 0; span = 0; largest = 2 ^ 53 }) → ⊥
+  pub not-smaller : In-range (record { precision = 53; least = pos 0; span = 0; largest = 2 ^ 52 - 1 }) → ⊥

@@ -3,7 +3,7 @@
 //! The floor of twice the root, in units of the last place, and whether it is exact tell on which
 //! side of a half the root lies; so the length needs no more than one floor root.
 ghost use mathlib.Core.Path.{_≡_};
-ghost use Prim.Native.Nat.{_*_, _^_, _<_, _≤_};
+ghost use Prim.Native.Nat.{max, _*_, _^_, _<_, _≤_};
 ghost use Rattle.exact.specs.Length.{Length, half-to-even, nearer-root, rounded-root};
 
 /// The number `significand * 2^exponent`, with the exponent counted from the least one.
@@ -13,8 +13,17 @@ pub struct Magnitude {
     pub exponent: u32,
 }
 
-/// The root of `n` rounded to `precision` bits, to nearest, ties to even.
+/// The root of `n` rounded to `precision` bits, to nearest, ties to even. A precision of 0 is taken
+/// as 1.
 pub fn length(precision: u32, n: u64) -> Magnitude
+    ensures { λ r. ⌜ Length (max precision 1) n (r .significand) (r .exponent) ⌝ }
+{
+    length_at(precision.max(1), n)
+}
+
+// The same at a precision of at least one bit.
+fn length_at(precision: u32, n: u64) -> Magnitude
+    requires { ⌜ 1 ≤ precision ⌝ }
     ensures { λ r. ⌜ Length precision n (r .significand) (r .exponent) ⌝ }
 {
     let bits = 64 - n.leading_zeros();
@@ -23,7 +32,7 @@ pub fn length(precision: u32, n: u64) -> Magnitude
     // One bit too many: the next power of two, one exponent up.
     if precision < 64 && significand == 1 << precision {
         Magnitude {
-            significand: 1 << precision.saturating_sub(1),
+            significand: 1 << (precision - 1),
             exponent: exponent + 1,
         }
     } else {

@@ -1,5 +1,6 @@
 //! The theorems on the length, each asked for by the contract of a function.
-ghost use Rattle.exact.specs.Nearest.{Length-exists, Length-is-unique, Length-is-nearest, Nearest-is-unique, Length-is-value, Length-is-beyond};
+ghost use Rattle.exact.specs.Value.{Limits};
+ghost use Rattle.exact.specs.Nearest.{Length-exists, Length-is-unique, Length-is-nearest, Nearest-is-unique, Length-is-value, Value-is-length, Length-at-top};
 
 /// Every radicand has exactly one length, the computed one.
 pub fn length_is_determined()
@@ -13,5 +14,11 @@ pub fn length_is_nearest()
     ensures nearest { λ _. ⌜ Length-is-nearest ⌝ }
     ensures only { λ _. ⌜ Nearest-is-unique ⌝ }
     ensures value { λ _. ⌜ Length-is-value ⌝ }
-    ensures beyond { λ _. ⌜ Length-is-beyond ⌝ }
+    ensures own { λ _. ⌜ Value-is-length ⌝ }
+    ensures top { λ _. ⌜ Length-at-top ⌝ }
+{}
+
+/// The parameters of forms reach to their limits, and not past them.
+pub fn form_limits()
+    ensures { λ _. ⌜ Limits ⌝ }
 {}

@@ -21,7 +21,7 @@ read-fields ones implicit-bit negative exponent fraction =
 abbrev pub read-binary : ℕ → ℕ → ℕ → Reading
 read-binary w t pattern = read-fields (2 ^ w - 1) (2 ^ t) (leb (2 ^ (w + t)) pattern) (pattern / 2 ^ t % 2 ^ w) (pattern % 2 ^ t)
 
--- a significand with the implicit leading bit adds one to the field e, so that the sum of both fields is the pattern
+-- a pattern is written as a sum: the implicit bit of k, where it has one, carries into the exponent field and makes it e + 1
 abbrev pub binary : ℕ → ℕ → ℤ → Encoding ℕ
 binary w t least = record {
   form = record { precision = t + 1; least = least; span = 2 ^ w - 3; largest = 2 ^ (t + 1) - 1 };

@@ -15,6 +15,6 @@ pub enum Reading {
     },
     /// no number
     QuietNan,
-    /// no number, with the demand to be reported
+    /// no number, and its use is to be reported as invalid
     SignallingNan,
 }

@@ -9,12 +9,20 @@ use sources::table::TableSource;
 use std::env;
 use std::error::AnyError;
 
-fn print_proposal<S: RootSource>(rt: &LibcRuntime, name: &str, source: &S, word: u64) -> Result<(), AnyError> {
+fn print_proposal<S: RootSource>(
+    rt: &LibcRuntime,
+    name: &str,
+    source: &S,
+    word: u64,
+) -> Result<(), AnyError> {
     let grade = source.grade();
     match (source.propose(word), DigitSource.propose(word)) {
         (Some(proposal), Some(root)) => {
             let distance = proposal.abs_diff(root);
-            println!(rt, "  {name}, grade {grade}: {proposal:014x}, {distance} from the root")?;
+            println!(
+                rt,
+                "  {name}, grade {grade}: {proposal:014x}, {distance} from the root"
+            )?;
         }
         _ => println!(rt, "  {name}, grade {grade}: no proposal")?,
     }

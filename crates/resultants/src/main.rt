@@ -3,6 +3,7 @@ use forms::number_form::NumberForm;
 use forms::reading::Reading;
 use forms::thousandths::Thousandths;
 use forms::thousandths::ThousandthsForm;
+use sheet::line::trimmed;
 use sheet::pair::LineFault;
 use sheet::pair::Solved;
 use sheet::pair::solve_line;
@@ -59,14 +60,6 @@ fn print_fault(rt: &LibcRuntime, number: u64, fault: LineFault) -> io::Result<()
     }
 }
 
-// Takes the byte 10 off the end of a line that has one.
-fn without_newline(line: &[u8]) -> &[u8] {
-    match line {
-        [text @ .., b'\n'] => text,
-        _ => line,
-    }
-}
-
 fn run(rt: &LibcRuntime) -> io::Result<()> {
     let mut input = BufReader::new(rt.stdin());
     let mut line = Vec::new(rt.alloc());
@@ -77,7 +70,7 @@ fn run(rt: &LibcRuntime) -> io::Result<()> {
         if input.read_until(b'\n', &mut line)? == 0 {
             break;
         }
-        match solve_line(without_newline(&line)) {
+        match solve_line(trimmed(&line)) {
             Ok(solved) => {
                 solved_count = solved_count.saturating_add(1);
                 print_solved(rt, number, solved)?;

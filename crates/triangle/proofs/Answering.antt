@@ -1,18 +1,19 @@
 -- One pattern answers for each outcome: the length is the computed one, and its value has one pattern.
 use mathlib.Core.Path.{_≡_, refl, sym, ap, _∙_, subst}
 use mathlib.Core.Bool.{Bool, true, false, cond}
-use Prim.Native.Nat.{ℕ, _*_, _≤_, _<_}
+use mathlib.Core.List.{List, [], _∷_}
+use Prim.Native.Nat.{ℕ, _+_, _*_, _≤_, _<_}
 use native.Mathlib.Omega.{arith}
 use lib.Dec.{leb}
 use borrow.Author.Tests.{leb-true, leb-false}
 use Rattle.exact.specs.Value.{Value, units, largest-value}
 use Rattle.exact.specs.Length.{Length, length-significand, length-exponent}
 use Rattle.exact.proofs.Lengths.{length-exists, length-unique}
-use Rattle.exact.proofs.Values.{length-is-value, length-is-nearest, length-within, value-most}
+use Rattle.exact.proofs.Values.{length-is-value, length-is-nearest, length-within, value-is-length, value-most, some-bits}
 use Rattle.forms.specs.declared.reading.Reading.the-variants.{Finite}
 use Rattle.forms.specs.Encoding.{Encoding, Lawful}
-use Rattle.triangle.specs.Outcome.{Outcome, no-number, infinite, root-of}
-use Rattle.triangle.specs.Answer.{written-or-infinity, root-pattern, answer, Answers-root, Answers, One-answer}
+use Rattle.triangle.specs.Outcome.{Outcome, not-a-number, infinite, root-of, hypot-outcome}
+use Rattle.triangle.specs.Answer.{written-or-infinity, root-pattern, answer, hypot-pattern, Answers-root, Answers, One-answer}
 
 module _ {P : Type 0} (encoding : Encoding P) (law : Lawful encoding) (n k e : ℕ) (l : Length (encoding .form .precision) n k e) where
   abbrev largest : ℕ
@@ -61,21 +62,33 @@ module _ {P : Type 0} (encoding : Encoding P) (law : Lawful encoding) where
 
   pub root-answers : (n : ℕ) → Answers-root encoding n (root-pattern encoding n)
   unfolding root-pattern
-  root-answers n = by-test encoding law n (length-significand p n) (length-exponent p n) (length-exists p n) _ refl
+  root-answers n = by-test encoding law n (length-significand p n) (length-exponent p n) (length-exists p n (some-bits (encoding .form) (law .in-range))) _ refl
 
   pub root-only : (n : ℕ) (pattern : P) → Answers-root encoding n pattern → pattern ≡ root-pattern encoding n
   unfolding root-pattern
-  root-only n pattern a = by-length encoding law n (length-significand p n) (length-exponent p n) (length-exists p n) _ refl pattern a
+  root-only n pattern a = by-length encoding law n (length-significand p n) (length-exponent p n) (length-exists p n (some-bits (encoding .form) (law .in-range))) _ refl pattern a
 
   all-answer : (outcome : Outcome) → Answers encoding outcome (answer encoding outcome)
-  all-answer no-number = refl
+  all-answer not-a-number = refl
   all-answer infinite = refl
   all-answer (root-of n) = root-answers n
 
   only-one : (outcome : Outcome) (pattern : P) → Answers encoding outcome pattern → pattern ≡ answer encoding outcome
-  only-one no-number pattern a = a
+  only-one not-a-number pattern a = a
   only-one infinite pattern a = a
   only-one (root-of n) pattern a = root-only n pattern a
 
+  -- the square of a value has that value as its root
+  own-length : (k e : ℕ) → Value (encoding .form) k e → encoding .reading (root-pattern encoding (units k e * units k e + 0)) ≡ Finite false k e
+  own-length k e v =
+      root-answers (units k e * units k e + 0) .finite k e
+      (subst (λ (n : ℕ). Length p n k e) (omega arith) (value-is-length (encoding .form) (law .in-range) k e v))
+      (value-most (encoding .form) (law .in-range) k e v)
+
+  alone : (pattern : P) (negative : Bool) (k e : ℕ) → encoding .reading pattern ≡ Finite negative k e
+      → encoding .reading (hypot-pattern encoding (pattern ∷ [])) ≡ Finite false k e
+  alone pattern negative k e q =
+      ap (λ r. encoding .reading (answer encoding (hypot-outcome (r ∷ [])))) q ∙ own-length k e (law .reads-values pattern negative k e q)
+
   pub one-answer : One-answer encoding
-  one-answer = record { answers = all-answer; only = only-one }
+  one-answer = record { answers = all-answer; only = only-one; nan-reads = law .nan-is-quiet; infinity-reads = law .infinity-is-plus; alone = alone }

@@ -1,33 +1,32 @@
--- The sides of a resultant.
-use mathlib.Core.Path.{_≡_, refl, sym, ap, _∙_, subst}
+-- Where nothing about the sides is special, they come to the root of the sum of their squares.
+use mathlib.Core.Path.{_≡_, refl, ap, _∙_}
 use mathlib.Core.Bool.{Bool, true, false, cond}
 use mathlib.Core.List.{List, [], _∷_}
-use Prim.Native.Nat.{ℕ, _+_, _*_, _^_, _≤_, _<_}
+use Prim.Native.Nat.{ℕ, _+_, _*_}
 use native.Mathlib.Omega.{arith}
-use Rattle.std.proofs.shelf.Ways.{tells}
+use Rattle.std.specs.declared.option.Option.{Option}
+use Rattle.std.specs.declared.option.Option.the-variants.{Some, None}
 use Rattle.forms.specs.declared.reading.Reading.{Reading}
-use Rattle.forms.specs.declared.reading.Reading.the-variants.{Finite}
-use Rattle.forms.specs.Thousandths.{thousandths, read-thousandths}
-use Rattle.triangle.specs.Outcome.{Outcome, root-of, hypot-outcome}
-use Rattle.triangle.specs.Answer.{hypot-of}
+use Rattle.forms.specs.Encoding.{Encoding}
+use Rattle.triangle.specs.Outcome.{Outcome, not-a-number, infinite, root-of, is-signalling, is-infinite, is-quiet, some, magnitude, sum-of-squares, hypot-outcome}
+use Rattle.triangle.specs.Answer.{special-pattern}
 
--- finite thousandths have 31 bits at most, and the one exponent
-pub finite-short : (x : ℕ) (negative : Bool) (k e : ℕ) → x < 2 ^ 32 → Finite negative k e ≡ read-thousandths x → k < 2 ^ 31
-finite-short x negative k e h q = grind (arith, tells)
+module _ {P : Type 0} (encoding : Encoding P) where
+  -- the three tests in their order
+  chosen : Bool → Bool → Bool → ℕ → Outcome
+  chosen a b c n = cond a not-a-number (cond b infinite (cond c not-a-number (root-of n)))
 
-pub finite-whole : (x : ℕ) (negative : Bool) (k e : ℕ) → Finite negative k e ≡ read-thousandths x → e ≡ 0
-finite-whole x negative k e q = grind (arith, tells)
+  by-tests : (a b c : Bool) (n : ℕ) → special-pattern encoding (chosen a b c n) ≡ None → chosen a b c n ≡ root-of n
+  unfolding chosen
+  by-tests true b c n q = let z : _≡_ {A = ℕ} 0 1 = cc in absurd (omega arith)
+  by-tests false true c n q = let z : _≡_ {A = ℕ} 0 1 = cc in absurd (omega arith)
+  by-tests false false true n q = let z : _≡_ {A = ℕ} 0 1 = cc in absurd (omega arith)
+  by-tests false false false n q = refl
 
--- two finite sides come to the root of the sum of their significands' squares
-pub finite-sides : (x y : ℕ) (s t : Bool) (a b e f : ℕ) → Finite s a e ≡ read-thousandths x → Finite t b f ≡ read-thousandths y
-    → hypot-of thousandths (x ∷ y ∷ []) ≡ root-of (a * a + b * b)
-finite-sides x y s t a b e f p q =
-    (λ i. hypot-outcome (sym p i ∷ sym q i ∷ []))
-    ∙ (λ i. root-of (a * 2 ^ whole-x i * (a * 2 ^ whole-x i) + (b * 2 ^ whole-y i * (b * 2 ^ whole-y i) + 0)))
-    ∙ ap root-of (omega arith)
-  where
-    whole-x : e ≡ 0
-    whole-x = finite-whole x s a e p
+  nothing-special : (sides : List Reading) → special-pattern encoding (hypot-outcome sides) ≡ None → hypot-outcome sides ≡ root-of (sum-of-squares sides)
+  unfolding chosen
+  nothing-special sides q = by-tests (some is-signalling sides) (some is-infinite sides) (some is-quiet sides) (sum-of-squares sides) q
 
-    whole-y : f ≡ 0
-    whole-y = finite-whole y t b f q
+  pub two-sides : (x y : Reading) (a b : ℕ) → special-pattern encoding (hypot-outcome (x ∷ y ∷ [])) ≡ None → a ≡ magnitude x → b ≡ magnitude y
+      → hypot-outcome (x ∷ y ∷ []) ≡ root-of (a * a + b * b)
+  two-sides x y a b q p r = nothing-special (x ∷ y ∷ []) q ∙ ap root-of (omega (arith, ap (λ (z : ℕ). z * z) p, ap (λ (z : ℕ). z * z) r))

@@ -1,15 +1,17 @@
--- The pattern that answers for an outcome, in any number form: as a function, and in words that name no method.
+-- The pattern that answers for an outcome, in any number form: as a function, and as a relation that says what is right of it.
 use mathlib.Core.Path.{_≡_}
-use mathlib.Core.Bool.{true, false, cond}
-use mathlib.Core.List.{List, map}
+use mathlib.Core.Bool.{Bool, true, false, cond}
+use mathlib.Core.List.{List, [], _∷_, map}
 use Prim.Native.Nat.{ℕ, _*_, _≤_, _<_}
 use lib.Dec.{leb}
 use Rattle.exact.specs.Value.{units, largest-value}
 use Rattle.exact.specs.Length.{Length, length-significand, length-exponent}
 use Rattle.exact.specs.Nearest.{Nearest}
-use Rattle.forms.specs.declared.reading.Reading.the-variants.{Finite}
+use Rattle.std.specs.declared.option.Option.{Option}
+use Rattle.std.specs.declared.option.Option.the-variants.{Some, None}
+use Rattle.forms.specs.declared.reading.Reading.the-variants.{Finite, Infinite, QuietNan}
 use Rattle.forms.specs.Encoding.{Encoding, Lawful}
-use Rattle.triangle.specs.Outcome.{Outcome, no-number, infinite, root-of, hypot-outcome}
+use Rattle.triangle.specs.Outcome.{Outcome, not-a-number, infinite, root-of, hypot-outcome}
 
 -- the pattern of k * 2 ^ e, or plus infinity where that is above the largest value
 abbrev pub written-or-infinity : {P : Type 0} → Encoding P → ℕ → ℕ → P
@@ -21,9 +23,15 @@ root-pattern encoding n = written-or-infinity encoding (length-significand (enco
 
 -- the pattern that answers for an outcome
 abbrev pub answer : {P : Type 0} → Encoding P → Outcome → P
-answer encoding no-number = encoding .quiet-nan
+answer encoding not-a-number = encoding .quiet-nan
 answer encoding infinite = encoding .plus-infinity
 answer encoding (root-of n) = root-pattern encoding n
+
+-- the pattern that answers where nothing has to be rounded
+abbrev pub special-pattern : {P : Type 0} → Encoding P → Outcome → Option P
+special-pattern encoding not-a-number = Some (encoding .quiet-nan)
+special-pattern encoding infinite = Some (encoding .plus-infinity)
+special-pattern encoding (root-of n) = None
 
 -- what the sides with these patterns come to
 abbrev pub hypot-of : {P : Type 0} → Encoding P → List P → Outcome
@@ -45,7 +53,7 @@ pub record Answers-root {P : Type 0} (encoding : Encoding P) (n : ℕ) (pattern 
 
 -- the pattern answers for the outcome
 abbrev pub Answers : {P : Type 0} → Encoding P → Outcome → P → Type 0
-Answers encoding no-number pattern = pattern ≡ encoding .quiet-nan
+Answers encoding not-a-number pattern = pattern ≡ encoding .quiet-nan
 Answers encoding infinite pattern = pattern ≡ encoding .plus-infinity
 Answers encoding (root-of n) pattern = Answers-root encoding n pattern
 
@@ -53,3 +61,9 @@ Answers encoding (root-of n) pattern = Answers-root encoding n pattern
 pub record One-answer {P : Type 0} (encoding : Encoding P) : Type 0 where
   pub answers : (outcome : Outcome) → Answers encoding outcome (answer encoding outcome)
   pub only : (outcome : Outcome) (pattern : P) → Answers encoding outcome pattern → pattern ≡ answer encoding outcome
+  -- what answers for no number reads as a quiet NaN, and what answers beyond the form as plus infinity
+  pub nan-reads : encoding .reading (answer encoding not-a-number) ≡ QuietNan
+  pub infinity-reads : encoding .reading (answer encoding infinite) ≡ Infinite false
+  -- a single finite side is its own length: its magnitude, with plus sign
+  pub alone : (pattern : P) (negative : Bool) (k e : ℕ) → encoding .reading pattern ≡ Finite negative k e
+      → encoding .reading (hypot-pattern encoding (pattern ∷ [])) ≡ Finite false k e

@@ -27,6 +27,11 @@ pub record Worked-examples : Type 0 where
   -- an infinity outweighs a quiet NaN, and a signalling NaN outweighs both
   pub infinite : hypot-pattern binary64 (0x7ff8_0000_0000_0001 ∷ 0xfff0_0000_0000_0000 ∷ []) ≡ 0x7ff0_0000_0000_0000
   pub signalling : hypot-pattern binary64 (0x7ff0_0000_0000_0000 ∷ 0x7ff0_0000_0000_0001 ∷ []) ≡ 0x7ff8_0000_0000_0000
+  pub signalling-first : hypot-pattern binary64 (0x7ff0_0000_0000_0001 ∷ 0x7ff0_0000_0000_0000 ∷ []) ≡ 0x7ff8_0000_0000_0000
+  -- a quiet NaN beside a finite side gives the NaN, without its sign and payload
+  pub quiet : hypot-pattern binary64 (0xfff8_0000_0000_0001 ∷ 0x3ff0_0000_0000_0000 ∷ []) ≡ 0x7ff8_0000_0000_0000
+  -- signs do not matter
+  pub negative : hypot-pattern binary64 (0xc008_0000_0000_0000 ∷ 0x4010_0000_0000_0000 ∷ []) ≡ 0x4014_0000_0000_0000
   -- both zeros give plus zero
   pub zeros : hypot-pattern binary64 (0x8000_0000_0000_0000 ∷ 0 ∷ []) ≡ 0
   -- binary32: 52,613,341,184 and 14,680,063 give 52,613,345,280
@@ -44,9 +49,19 @@ pub record Worked-examples : Type 0 where
   pub small-sides : hypot-pattern binary32 (0x4110_0000 ∷ 0x3b40_0000 ∷ 0x3501_36f4 ∷ []) ≡ 0x4110_0001
   -- a small second side moves the root by more than half a unit
   pub small-side : hypot-pattern binary32 (0x40a0_0000 ∷ 0x3aca_62c2 ∷ []) ≡ 0x40a0_0001
-  -- an infinity outweighs a quiet NaN among three sides too
+  -- an infinity outweighs a quiet NaN in binary32 and among three sides too, and a signalling NaN outweighs it there too
+  pub infinity32 : hypot-pattern binary32 (0x7fc0_0000 ∷ 0x7f80_0000 ∷ []) ≡ 0x7f80_0000
+  pub three-with-signalling : hypot-pattern binary32 (0x7fc0_0000 ∷ 0x7f80_0000 ∷ 0x7f80_0001 ∷ []) ≡ 0x7fc0_0000
   pub three-with-infinity : hypot-pattern binary32 (0x7fc0_0000 ∷ 0x3f80_0000 ∷ 0x7f80_0000 ∷ []) ≡ 0x7f80_0000
   -- thousandths: 1 and 1 give 1
   pub one-one : hypot-pattern thousandths (1 ∷ 1 ∷ []) ≡ 1
   -- twice 2,147,483,646 gives over range
   pub over-range : hypot-pattern thousandths (0x7fff_fffe ∷ 0x7fff_fffe ∷ []) ≡ 0x7fff_ffff
+  -- a root less than half a unit above the largest value gives it, and a larger one over range
+  pub still-largest : hypot-pattern thousandths (0x7fff_fffe ∷ 0xb504 ∷ []) ≡ 0x7fff_fffe
+  pub just-over : hypot-pattern thousandths (0x7fff_fffe ∷ 0xb505 ∷ []) ≡ 0x7fff_ffff
+  -- the magnitude of a negative reading
+  pub lowest-reading : hypot-pattern thousandths (0x8000_0002 ∷ 0 ∷ []) ≡ 0x7fff_fffe
+  -- no reading beside a reading, and beside one that is under range
+  pub no-reading : hypot-pattern thousandths (0x8000_0000 ∷ 5 ∷ []) ≡ 0x8000_0000
+  pub under-range : hypot-pattern thousandths (0x8000_0000 ∷ 0x8000_0001 ∷ []) ≡ 0x7fff_ffff

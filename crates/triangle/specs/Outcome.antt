@@ -7,9 +7,9 @@ use Rattle.forms.specs.declared.reading.Reading.{Reading}
 use Rattle.forms.specs.declared.reading.Reading.the-variants.{Finite, Infinite, QuietNan, SignallingNan}
 
 pub data Outcome : Type 0 where
-  no-number : Outcome
+  not-a-number : Outcome
   infinite : Outcome
-  -- the root of a whole number, counted in units of the form's least exponent
+  -- the root of a whole number; the root counts units of the form's least exponent
   root-of : ℕ → Outcome
 
 abbrev pub is-signalling : Reading → Bool
@@ -50,7 +50,7 @@ sum-of-squares (side ∷ sides) = magnitude side * magnitude side + sum-of-squar
 -- which outweighs a quiet NaN, then a quiet NaN; finite sides have the root of the sum of their squares
 abbrev pub hypot-outcome : List Reading → Outcome
 hypot-outcome sides =
-    cond (some is-signalling sides) no-number
+    cond (some is-signalling sides) not-a-number
     (cond (some is-infinite sides) infinite
-    (cond (some is-quiet sides) no-number
+    (cond (some is-quiet sides) not-a-number
     (root-of (sum-of-squares sides))))

@@ -1,10 +1,13 @@
 //! The pattern that answers for a root, in any number form.
 ghost use mathlib.Core.Path.{_≡_};
+ghost use mathlib.Core.List.{[], _∷_};
 ghost use Rattle.exact.specs.Value.{Value};
 ghost use Rattle.forms.specs.Encoding.{Encoding, Lawful};
-ghost use Rattle.triangle.specs.Answer.{One-answer, Answers-root, root-pattern};
+ghost use Rattle.triangle.specs.Outcome.{hypot-outcome};
+ghost use Rattle.triangle.specs.Answer.{One-answer, Answers-root, root-pattern, special-pattern};
 use exact::length::length;
 use forms::number_form::NumberForm;
+use forms::reading::Reading;
 
 /// In every lawful form one pattern answers for an outcome: special cases have theirs, a root
 /// within the form has the pattern of the nearest value, and nothing else answers.
@@ -19,6 +22,19 @@ pub fn root_pattern<F: NumberForm>(n: u64) -> F::Pattern
 {
     let root = length(F::form().precision, n);
     written_or_infinity::<F>(root.significand, root.exponent)
+}
+
+/// The pattern that answers for the hypotenuse over two sides where one is no finite number, and
+/// nothing where both are finite. A signalling NaN comes first, then an infinity, then a quiet NaN.
+pub fn special_pattern<F: NumberForm>(x: Reading, y: Reading) -> Option<F::Pattern>
+    ensures { λ r. ⌜ r ≡ special-pattern (F·NumberForm .encoding) (hypot-outcome (x ∷ y ∷ [])) ⌝ }
+{
+    match (x, y) {
+        (Reading::SignallingNan, _) | (_, Reading::SignallingNan) => Some(F::quiet_nan()),
+        (Reading::Infinite { .. }, _) | (_, Reading::Infinite { .. }) => Some(F::plus_infinity()),
+        (Reading::QuietNan, _) | (_, Reading::QuietNan) => Some(F::quiet_nan()),
+        (Reading::Finite { .. }, Reading::Finite { .. }) => None,
+    }
 }
 
 // The pattern of `significand * 2^exponent`, or plus infinity where that is no value of the form.

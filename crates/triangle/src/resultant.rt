@@ -1,9 +1,12 @@
 //! The resultant of two probe readings in thousandths.
 ghost use mathlib.Core.Path.{_≡_};
 ghost use mathlib.Core.List.{[], _∷_};
-ghost use Rattle.forms.specs.Thousandths.{thousandths};
+ghost use Prim.Native.Nat.{_^_, _<_};
+ghost use Rattle.forms.specs.Thousandths.{thousandths, read-thousandths};
+ghost use Rattle.triangle.specs.Outcome.{magnitude};
 ghost use Rattle.triangle.specs.Answer.{hypot-pattern, hypot-of, Answers};
 use crate::answer::root_pattern;
+use crate::answer::special_pattern;
 use forms::number_form::NumberForm;
 use forms::reading::Reading;
 use forms::thousandths::Thousandths;
@@ -16,14 +19,23 @@ pub fn resultant(x: u32, y: u32) -> u32
     ensures value { λ r. ⌜ r ≡ hypot-pattern thousandths (x ∷ y ∷ []) ⌝ }
     ensures nearest { λ r. ⌜ Answers thousandths (hypot-of thousandths (x ∷ y ∷ [])) r ⌝ }
 {
-    match (Thousandths::read(x), Thousandths::read(y)) {
-        (Reading::SignallingNan, _) | (_, Reading::SignallingNan) => Thousandths::quiet_nan(),
-        (Reading::Infinite { .. }, _) | (_, Reading::Infinite { .. }) =>
-            Thousandths::plus_infinity(),
-        (Reading::QuietNan, _) | (_, Reading::QuietNan) => Thousandths::quiet_nan(),
-        (Reading::Finite { significand: a, .. }, Reading::Finite { significand: b, .. }) => {
-            root_pattern::<ThousandthsForm>(a * a + b * b)
-        }
+    let special = special_pattern::<ThousandthsForm>(Thousandths::read(x), Thousandths::read(y));
+    if let Some(pattern) = special {
+        return pattern;
+    }
+    let a = whole_magnitude(x);
+    let b = whole_magnitude(y);
+    root_pattern::<ThousandthsForm>(a * a + b * b)
+}
+
+// The magnitude of a finite reading in thousandths.
+fn whole_magnitude(pattern: u32) -> u64
+    ensures value { λ r. ⌜ r ≡ magnitude (read-thousandths pattern) ⌝ }
+    ensures bound { λ r. ⌜ r < 2 ^ 31 ⌝ }
+{
+    match Thousandths::read(pattern) {
+        Reading::Finite { significand, .. } => significand,
+        _ => 0,
     }
 }
 
