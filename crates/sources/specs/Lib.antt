@@ -1,0 +1,4 @@
+pub mod Source
+pub mod Table
+pub mod Refined
+pub mod Refiner
