@@ -55,3 +55,8 @@ sum-with x y g z h p l = go (p .negative) (p .count) (p .value) (p .is)
     go : (s : Bool) (n : ℕ) → HasValue y s n unit → z ≡ signed s n → add binary64 x y ≡ round binary64 false (natAbs (pos g +ℤ z)) unit
     go false n v e = add-fractions binary64 x y g n unit unit-positive h v ∙ ap (λ (k : ℕ). round binary64 false k unit) (let d : g + n ≡ natAbs (pos g +ℤ z) = omega (arith, ints) in d)
     go true n v e = add-opposite binary64 x y g n unit unit-positive (omega (arith, ints)) h v ∙ ap (λ (k : ℕ). round binary64 false k unit) (let d : g - n ≡ natAbs (pos g +ℤ z) = omega (arith, ints) in d)
+
+-- a rounded quotient is at most twice the exact one
+pub quotient-most : (n h : ℕ) → 0 < h → grid binary64 n h * h ≤ n * unit * 2
+unfolding unit
+quotient-most n h H = grid-twice binary64 n h H

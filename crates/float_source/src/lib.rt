@@ -1,0 +1,116 @@
+//! The root source that divides floats.
+//!
+//! A line through the roots of `2^62` and `2^64` gives a first guess, and four Newton steps square its
+//! error until only roundings are left: about five, each of `2^-53`, so that the root of 54 bits is
+//! found to within 16.
+ghost use mathlib.Core.Path.{_≡_};
+ghost use Prim.Native.Nat.{_^_, _≤_};
+ghost use lib.Dec.{T};
+ghost use lib.Ieee.{fin, lt};
+ghost use lib.IntN.{pos};
+ghost use mathlib.Core.Bool.{true, false};
+ghost use Rattle.float_source.specs.FloatProposal.{
+    Held, upper, lower, first-guess, mean, stepped, last-step, improved, scaled, cut, float-proposal, float-source
+};
+use floats::double_double::DoubleDouble;
+use sources::root_source::RootSource;
+use std::num::truncating_f64_to_u64;
+
+/// Holds the word exactly as a pair of floats and improves a first guess by float division. Which
+/// proposal it makes is a free choice within the grade: any other within 16 of the root would serve
+/// as well.
+#[derive(Clone, Copy)]
+pub struct FloatSource;
+
+pub impl RootSource for FloatSource as FloatRootSource {
+    ghost meaning = { λ _. float-source };
+
+    fn grade(&self) -> u32 {
+        4
+    }
+
+    fn propose(&self, word: u64) -> Option<u64> {
+        if word < 1 << 62 {
+            return None;
+        }
+        Some(proposal(word))
+    }
+}
+
+// The proposal for a word.
+fn proposal(word: u64) -> u64
+    requires { ⌜ 2 ^ 62 ≤ word ⌝ }
+    ensures { λ r. ⌜ r ≡ float-proposal word ⌝ }
+{
+    let root = improve(guess(word), held(word));
+    cut_root(root)
+}
+
+// The word exactly, as the float nearest to it and what that lacks.
+fn held(word: u64) -> DoubleDouble
+    requires { ⌜ 2 ^ 62 ≤ word ⌝ }
+    ensures { λ r. ⌜ Held word (r .hi) (r .lo) ⌝ }
+{
+    DoubleDouble::from_exact_add(upper_half(word), lower_half(word))
+}
+
+// The upper 32 bits of the word, in their place.
+fn upper_half(word: u64) -> f64
+    ensures { λ r. ⌜ r ≡ upper word ⌝ }
+{
+    (word / 0x1_0000_0000) as f64 * 4294967296.0
+}
+
+// The lower 32 bits of the word.
+fn lower_half(word: u64) -> f64
+    ensures { λ r. ⌜ r ≡ lower word ⌝ }
+{
+    (word % 0x1_0000_0000) as f64
+}
+
+// A guess within a sixteenth of the root: a line in the word.
+fn guess(word: u64) -> f64
+    ensures { λ r. ⌜ r ≡ first-guess word ⌝ }
+{
+    ((word / 0x8000_0000 + 0x1_0000_0000) / 3) as f64
+}
+
+// Four steps, the last with both parts of the word.
+fn improve(guess: f64, word: DoubleDouble) -> f64
+    ensures { λ r. ⌜ r ≡ improved guess (word .hi) (word .lo) ⌝ }
+{
+    let first = step(guess, word.hi);
+    let second = step(first, word.hi);
+    let third = step(second, word.hi);
+    step_by_both(third, word)
+}
+
+// A Newton step.
+fn step(x: f64, t: f64) -> f64
+    ensures { λ r. ⌜ r ≡ stepped x t ⌝ }
+{
+    half_sum(x, t / x)
+}
+
+// A Newton step with both parts of the word.
+fn step_by_both(x: f64, word: DoubleDouble) -> f64
+    ensures { λ r. ⌜ r ≡ last-step x (word .hi) (word .lo) ⌝ }
+{
+    half_sum(x, word.hi / x + word.lo / x)
+}
+
+fn half_sum(x: f64, q: f64) -> f64
+    ensures { λ r. ⌜ r ≡ mean x q ⌝ }
+{
+    (x + q) * 0.5
+}
+
+// The root times `2^22`, as a whole number of 54 bits.
+fn cut_root(root: f64) -> u64
+    requires least { ⌜ T (lt (fin true 1 (pos 0)) (scaled root)) ⌝ }
+    requires most { ⌜ T (lt (scaled root) (fin false 1 (pos 64))) ⌝ }
+    ensures { λ r. ⌜ r ≡ cut root ⌝ }
+{
+    let whole = truncating_f64_to_u64(root * 4194304.0);
+    whole.min((1 << 54) - 1).max(1 << 53)
+}
