@@ -5,3 +5,4 @@ pub mod Constants
 pub mod WordParts
 pub mod Quotients
 pub mod Steps
+pub mod Proposals

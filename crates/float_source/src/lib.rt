@@ -42,7 +42,17 @@ fn proposal(word: u64) -> u64
     requires { ⌜ 2 ^ 62 ≤ word ⌝ }
     ensures { λ r. ⌜ r ≡ float-proposal word ⌝ }
 {
-    let root = improve(guess(word), held(word));
+    let DoubleDouble { hi, lo } = held(word);
+    proposal_by(word, hi, lo)
+}
+
+// The proposal for a word that is the sum of `hi` and `lo`.
+fn proposal_by(word: u64, hi: f64, lo: f64) -> u64
+    requires word { ⌜ 2 ^ 62 ≤ word ⌝ }
+    requires parts { ⌜ Held word hi lo ⌝ }
+    ensures { λ r. ⌜ r ≡ float-proposal word ⌝ }
+{
+    let root = improve(guess(word), hi, lo);
     cut_root(root)
 }
 
@@ -76,27 +86,27 @@ fn guess(word: u64) -> f64
 }
 
 // Four steps, the last with both parts of the word.
-fn improve(guess: f64, word: DoubleDouble) -> f64
-    ensures { λ r. ⌜ r ≡ improved guess (word .hi) (word .lo) ⌝ }
+fn improve(guess: f64, hi: f64, lo: f64) -> f64
+    ensures { λ r. ⌜ r ≡ improved guess hi lo ⌝ }
 {
-    let first = step(guess, word.hi);
-    let second = step(first, word.hi);
-    let third = step(second, word.hi);
-    step_by_both(third, word)
+    let first = step(guess, hi);
+    let second = step(first, hi);
+    let third = step(second, hi);
+    step_by_both(third, hi, lo)
 }
 
-// A Newton step.
+// A Newton step for the root of `t`.
 fn step(x: f64, t: f64) -> f64
     ensures { λ r. ⌜ r ≡ stepped x t ⌝ }
 {
     half_sum(x, t / x)
 }
 
-// A Newton step with both parts of the word.
-fn step_by_both(x: f64, word: DoubleDouble) -> f64
-    ensures { λ r. ⌜ r ≡ last-step x (word .hi) (word .lo) ⌝ }
+// A Newton step for the root of `hi + lo`.
+fn step_by_both(x: f64, hi: f64, lo: f64) -> f64
+    ensures { λ r. ⌜ r ≡ last-step x hi lo ⌝ }
 {
-    half_sum(x, word.hi / x + word.lo / x)
+    half_sum(x, hi / x + lo / x)
 }
 
 fn half_sum(x: f64, q: f64) -> f64
