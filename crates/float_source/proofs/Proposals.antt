@@ -1,23 +1,22 @@
 -- The root times 2 ^ 22, cut to a whole number, is within 15 of the word's root; kept to 54 bits it comes no further from it.
 use mathlib.Core.Path.{_≡_, sym, ap, _∙_, subst}
 use mathlib.Core.Bool.{true, false, true≢false}
-use Prim.Native.Nat.{ℕ, _+_, _-_, _*_, _/_, _%_, _^_, _≤_, _<_, min, max}
+use Prim.Native.Nat.{ℕ, _+_, _-_, _*_, _/_, _^_, _≤_, _<_, min, max}
 use native.Mathlib.Nat.{mul-pos, mul-le-mul-right, lt-of-mul-lt-mul-right, div-lt-iff-lt-mul, div-mul-le-self, div-add-mod', mod-lt}
 use native.Mathlib.Omega.{arith}
 use lib.Dec.{T, lit<, lit≤, lt→ltb}
-use lib.IntN.{pos}
 use lib.Ieee.{Float, nan, inf, fin, binary64, up, down, ofBits, toUnsigned, lt, fits}
 use lib.Ieee.Fits.{down-pos}
 use lib.Ieee.Nearest.{div-same}
 use Rattle.floats.specs.Units.{unit}
 use Rattle.floats.specs.Near.{Near}
 use Rattle.floats.specs.Holds.{Holds}
-use Rattle.floats.proofs.Values.{Is, unit-positive}
+use Rattle.floats.proofs.Values.{unit-positive}
 use Rattle.floats.proofs.Nearness.{near-unscale, near-alike}
 use Rattle.floats.proofs.Operations.{unit-large, rounded-product}
 use Rattle.sources.specs.Source.{Word, Word-root, Within, Sound}
 use Rattle.sources.proofs.Words.{root-least, root-most}
-use Rattle.float_source.specs.FloatProposal.{held-high, held-low, Held, first-guess, improved, scaled, cut, float-proposal, float-source}
+use Rattle.float_source.specs.FloatProposal.{held-high, held-low, Held, first-guess, improved, scaled, In-range, cut, float-proposal, float-source}
 use Rattle.float_source.proofs.Gains.{ranged, scaled-square, close}
 use Rattle.float_source.proofs.Constants.{scale-holds}
 use Rattle.float_source.proofs.WordParts.{parts, same-low}
@@ -55,11 +54,6 @@ cut-is (fin true m e) z v h = absurd (true≢false (v .0))
 cut-is (fin false m e) z v h =
     let q : m * up e / down e ≡ z / unit = div-same (m * up e) (down e) z unit (down-pos e) unit-positive (v .1) in
     uncapped (m * up e / down e) (z / unit) (subst (λ (y : ℕ). y < 2 ^ 64) (sym q) h) q
-
--- x lies between -1 and 2 ^ 64, so that it can be cut
-pub record In-range (x : Float) : Type 0 where
-  pub least : T (lt (fin true 1 (pos 0)) x)
-  pub most : T (lt x (fin false 1 (pos 64)))
 
 in-range : (x : Float) (z : ℕ) → Holds x z → z < 2 ^ 60 * unit → In-range x
 unfolding lt

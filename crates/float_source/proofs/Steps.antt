@@ -1,12 +1,11 @@
 -- The steps in floats: each takes the mean of the guess and a quotient, so the guess's square comes as near to the word as a Newton step brings it.
 use mathlib.Core.Path.{_≡_, ap}
 use mathlib.Core.Bool.{false}
-use Prim.Native.Nat.{ℕ, _+_, _*_, _/_, _^_, _≤_, _<_}
+use Prim.Native.Nat.{ℕ, _+_, _*_, _^_, _≤_, _<_}
 use native.Mathlib.Nat.{mul-one, mul-le-mul-right}
 use native.Mathlib.Omega.{arith}
 use lib.Dec.{T, lit<, lit≤}
-use lib.IntN.{pos}
-use lib.Ieee.{Float, binary64, round, add, mul, div, ofInt, ofBits, fits}
+use lib.Ieee.{Float, binary64, round, add, div, ofInt, ofBits}
 use lib.Ieee.Back.{round-whole}
 use Rattle.floats.specs.Units.{unit}
 use Rattle.floats.specs.Near.{Near}
@@ -16,7 +15,7 @@ use Rattle.floats.proofs.Nearness.{near-scale, near-unscale, near-one, near-ali
 use Rattle.floats.proofs.Fractions.{rescale}
 use Rattle.floats.proofs.Operations.{unit-large, rounded-sum, rounded-product}
 use Rattle.sources.specs.Source.{Word}
-use Rattle.float_source.specs.FloatProposal.{held-high, held-low, first-guess, mean, stepped, last-step, improved}
+use Rattle.float_source.specs.FloatProposal.{held-high, held-low, first-guess, mean, stepped, improved}
 use Rattle.float_source.proofs.FirstGuess.{guessed, guessed-square}
 use Rattle.float_source.proofs.Gains.{Step, Gain, first-gain, second-gain, third-gain, last-gain, step-rounded, Ranged, ranged, double-square}
 use Rattle.float_source.proofs.Constants.{half}

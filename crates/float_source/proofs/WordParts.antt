@@ -1,17 +1,16 @@
 -- A word as two floats. Its halves of 32 bits are floats, so their exact sum holds it: the nearest float, and what that lacks.
 use mathlib.Core.Path.{_≡_, refl, sym, ap, _∙_, subst}
 use mathlib.Core.Bool.{true, false}
-use Prim.Native.Nat.{ℕ, zero, suc, _+_, _*_, _/_, _%_, _^_, _≤_, _<_}
+use Prim.Native.Nat.{ℕ, suc, _+_, _*_, _/_, _%_, _^_, _≤_, _<_}
 use native.Mathlib.Nat.{le-trans, mul-one, mul-assoc, mul-le-mul-right, lt-of-lt-of-le, mul-lt-mul-of-pos-right}
 use native.Mathlib.Omega.{arith}
 use lib.Dec.{T, lit<, lit≤}
 use lib.Pow.{pow-pos}
-use lib.IntN.{ℤ, pos, negsuc, negℤ, natAbs, _+ℤ_, _-ℤ_}
-use lib.Ieee.{Float, binary64, add, mul, round, ofInt, ofBits, fits}
+use lib.IntN.{ℤ, pos, negsuc, natAbs, _+ℤ_, _-ℤ_}
+use lib.Ieee.{Float, binary64, add, round, ofInt, ofBits, fits}
 use lib.Ieee.Back.{round-whole}
 use lib.Ieee.Fits.{mul-fits, ofInt-fits}
 use lib.Ieee.Exact.{HasValue, round-exact}
-use lib.Ieee.Scale.{finite}
 use Rattle.std.proofs.shelf.Signed.{ints}
 use Rattle.floats.specs.Units.{unit, most, units, Moderate}
 use Rattle.floats.specs.ExactSum.{Exact-sum}

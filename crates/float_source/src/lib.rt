@@ -1,24 +1,32 @@
 //! The root source that divides floats.
 //!
-//! A line through the roots of `2^62` and `2^64` gives a first guess, and four Newton steps square its
-//! error until only roundings are left: about five, each of `2^-53`, so that the root of 54 bits is
-//! found to within 16.
+//! A line gives a first guess, and Newton steps square the relative error: that of the guess's
+//! square falls from 1/8 to 1/120, 2^-14 and 2^-28, and then to 24 of 2^54, where the roundings of
+//! the last step are what is left. So the root of 54 bits is off by at most 15.
 ghost use mathlib.Core.Path.{_≡_};
 ghost use Prim.Native.Nat.{_^_, _≤_};
-ghost use lib.Dec.{T};
-ghost use lib.Ieee.{fin, lt};
-ghost use lib.IntN.{pos};
-ghost use mathlib.Core.Bool.{true, false};
 ghost use Rattle.float_source.specs.FloatProposal.{
-    Held, upper, lower, first-guess, mean, stepped, last-step, improved, scaled, cut, float-proposal, float-source
+  Held,
+  upper,
+  lower,
+  first-guess,
+  mean,
+  stepped,
+  last-step,
+  improved,
+  scaled,
+  In-range,
+  cut,
+  float-proposal,
+  float-source,
 };
 use floats::double_double::DoubleDouble;
 use sources::root_source::RootSource;
 use std::num::truncating_f64_to_u64;
 
-/// Holds the word exactly as a pair of floats and improves a first guess by float division. Which
-/// proposal it makes is a free choice within the grade: any other within 16 of the root would serve
-/// as well.
+/// A root source that holds the word exactly as a pair of floats and improves a first guess by float
+/// division. Its grade is 4. Which proposal it makes is a free choice within that: any other within
+/// 16 of the root would serve as well, and it is pinned only so that it is one for each word.
 #[derive(Clone, Copy)]
 pub struct FloatSource;
 
@@ -109,6 +117,7 @@ fn step_by_both(x: f64, hi: f64, lo: f64) -> f64
     half_sum(x, hi / x + lo / x)
 }
 
+// The mean of a guess and a quotient.
 fn half_sum(x: f64, q: f64) -> f64
     ensures { λ r. ⌜ r ≡ mean x q ⌝ }
 {
@@ -117,10 +126,39 @@ fn half_sum(x: f64, q: f64) -> f64
 
 // The root times `2^22`, as a whole number of 54 bits.
 fn cut_root(root: f64) -> u64
-    requires least { ⌜ T (lt (fin true 1 (pos 0)) (scaled root)) ⌝ }
-    requires most { ⌜ T (lt (scaled root) (fin false 1 (pos 64))) ⌝ }
+    requires { ⌜ In-range (scaled root) ⌝ }
     ensures { λ r. ⌜ r ≡ cut root ⌝ }
 {
     let whole = truncating_f64_to_u64(root * 4194304.0);
     whole.min((1 << 54) - 1).max(1 << 53)
+}
+
+#[cfg(test)]
+mod tests {
+    use super::*;
+    use sources::refiner::Refiner;
+    use sources::refiner::RefinerRootSource;
+    use std::test::*;
+
+    fn distance(word: u64, root: u64) -> Result<u64, Fail> {
+        let proposal = FloatSource.propose(word).ok_or("no proposal")?;
+        Ok(proposal.abs_diff(root))
+    }
+
+    #[test]
+    fn near_the_roots() -> Result<(), Fail> {
+        check_eq(FloatSource.propose((1 << 62) - 1), None)?;
+        check(distance(1 << 62, 1 << 53)? <= 16)?;
+        check(distance(1 << 63, 0x2d_413c_ccfe_7799)? <= 16)?;
+        check(distance(u64::MAX, (1 << 54) - 1)? <= 16)
+    }
+
+    #[test]
+    fn grades() -> Result<(), Fail> {
+        check_eq(FloatSource.grade(), 4)?;
+        match Refiner::new(FloatSource, 1) {
+            Ok(refiner) => check_eq(refiner.grade(), 0),
+            Err(refusal) => Err(Fail::new(refusal.number())),
+        }
+    }
 }

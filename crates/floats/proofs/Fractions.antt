@@ -1,6 +1,5 @@
 -- The operations on finite floats by any fractions that the floats equal: each is the exact fraction, rounded once.
 use mathlib.Core.Path.{_≡_, refl, sym, ap, _∙_, subst}
-use mathlib.Core.Logic.{inl, inr}
 use mathlib.Core.Bool.{Bool, true, false, not, cond, true≢false}
 use Prim.Native.Nat.{ℕ, zero, suc, _+_, _-_, _*_, _≤_, _<_}
 use native.Mathlib.Nat.{mul-pos, zero-mul, lt-irrefl, zero-lt-suc, eq-of-mul-eq-mul-right}

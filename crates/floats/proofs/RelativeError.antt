@@ -2,7 +2,7 @@
 use mathlib.Core.Path.{_≡_, sym, ap, _∙_, subst}
 use mathlib.Core.Bool.{Bool, not}
 use Prim.Native.Nat.{ℕ, zero, suc, _+_, _-_, _*_, _/_, _%_, _^_, _≤_, _<_, compare, Ordering, Ordering·lt, Ordering·eq, Ordering·gt}
-use native.Mathlib.Nat.{le-trans, le-of-eq, lt-of-le-of-lt, mul-pos, mul-comm, mul-assoc, mul-le-mul-right, mul-le-mul-left, lt-of-mul-lt-mul-right, mul-lt-mul-of-pos-right, le-of-mul-le-mul-right, div-add-mod', mod-lt, le-div-iff-mul-le, pow-succ'}
+use native.Mathlib.Nat.{le-trans, le-of-eq, lt-of-le-of-lt, mul-pos, mul-comm, mul-assoc, mul-le-mul-right, lt-of-mul-lt-mul-right, mul-lt-mul-of-pos-right, div-add-mod', mod-lt, le-div-iff-mul-le, pow-succ'}
 use native.Mathlib.Omega.{arith}
 use lib.Dec.{T, isLe, isEq, leb→le, nleb→lt, eqb→eq}
 use lib.Pow.{pow-add, pow-pos}
