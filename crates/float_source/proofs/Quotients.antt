@@ -38,13 +38,13 @@ between w X P U u word x n =
 
 -- The high part, H units, is the nearest to w, and Q is its quotient by X, rounded.
 module _ (w X H Q U : ℕ) (h : Near 1 (2 ^ 53) H (w * U)) (q : Near 1 (2 ^ 53) (Q * X) (H * U)) where
-  pub high-near : Near 7 (2 ^ 54) (Q * X) (w * (U * U))
-  high-near =
+  pub high-quotient-near : Near 7 (2 ^ 54) (Q * X) (w * (U * U))
+  high-quotient-near =
       let s = near-scale 1 (2 ^ 53) H (w * U) U h in
       let t : Near 1 (2 ^ 53) (H * U) (w * (U * U)) = record { above = omega (arith, s .above); below = omega (arith, s .below) } in
       near-weaken _ _ 7 (2 ^ 54) (Q * X) (w * (U * U)) (lit< tt) (lit≤ tt) (near-chain 1 (2 ^ 53) 1 (2 ^ 53) (Q * X) (H * U) (w * (U * U)) q t)
 
-  -- the low part is l units, and r is at most twice its quotient: its sum with Q, or its difference
+  -- the low part is l units, added or taken away, and r is at most twice its quotient: so r is off by at most l / X itself, a rounding's worth
   with-more : (l r : ℕ) → H + l ≡ w * U → r * X ≤ l * U * 2 → Near 9 (2 ^ 55) ((Q + r) * X) (w * (U * U))
   with-more l r e s =
       let a = ap (λ (z : ℕ). z * U) e in
@@ -60,12 +60,13 @@ module _ (w X H Q U : ℕ) (h : Near 1 (2 ^ 53) H (w * U)) (q : Near 1 (2 ^ 53) 
       let d = ap (λ (z : ℕ). z * X) f in
       record { above = omega (arith, q .above); below = omega (arith, q .below) }
 
+  -- and r is far smaller than Q
   small : (l r : ℕ) → 0 < X → l * 2 ^ 53 ≤ w * U → r * X ≤ l * U * 2 → r ≤ Q
   small l r P m s =
-      let a = near-alike 7 (2 ^ 54) (Q * X) (w * (U * U)) (lit< tt) (lit≤ tt) high-near in
+      let a = near-alike 7 (2 ^ 54) (Q * X) (w * (U * U)) (lit< tt) (lit≤ tt) high-quotient-near in
       le-of-mul-le-mul-right {k = X} (omega (arith, a .least, mul-le-mul-right U m)) P
 
--- the same with the low part L and its quotient, with their signs
+-- The same with the low part L and its quotient, with their signs.
 module _ (w X H Q : ℕ) (P : 0 < X) (h : Near 1 (2 ^ 53) H (w * unit)) (q : Near 1 (2 ^ 53) (Q * X) (H * unit)) where
   low-quotient-small : (L : ℤ) → pos H +ℤ L ≡ pos (w * unit) → natAbs (quotient L X) ≤ Q
   low-quotient-small (pos l) e = small w X H Q unit h q l (grid binary64 l X) P (omega (arith, ints, h .below)) (quotient-most l X P)
@@ -104,7 +105,7 @@ module _ (w : ℕ) (word : Word w) (p : Parts w) (x : Float) (X : ℕ) (x-holds 
       rounded-quotient (held-high w) x H X (p .high-holds) x-holds positive (omega (arith, range .most, mul-le-mul-right unit d, mul-le-mul-right unit unit-large)) (omega (arith, range .least))
 
   pub divided-high : Divided w X by-high
-  divided-high = let q = high-quotient in record { count = q .count; holds = q .holds; near = high-near w X (p .high) (q .count) unit (p .high-near) (q .near) }
+  divided-high = let q = high-quotient in record { count = q .count; holds = q .holds; near = high-quotient-near w X (p .high) (q .count) unit (p .high-near) (q .near) }
 
   -- the exact sum of the quotients of the parts
   abbrev sum-count : ℕ

@@ -33,6 +33,7 @@ rounded-value : (s : Bool) (n h : ℕ) → 0 < h → n ≤ 2 ^ 66 * h → HasVal
 unfolding unit
 rounded-value s n h H l = round-value binary64 n h H s (lt-of-le-of-lt l (mul-lt-mul-of-pos-right (lit< tt) H))
 
+-- x is z units, and y is h
 pub quotient-is : (x y : Float) (z : ℤ) (h : ℕ) → Is x z → Holds y h → 0 < h → natAbs z ≤ 2 ^ 66 * h → Is (div binary64 x y) (quotient z h)
 quotient-is x y z h p q H l =
     let s = p .negative in
@@ -49,6 +50,7 @@ quotient-is x y z h p q H l =
     size true n = omega (arith, ints)
     size false n = refl
 
+-- x is g units, and y is z, no larger in size
 pub sum-with : (x y : Float) (g : ℕ) (z : ℤ) → Holds x g → Is y z → natAbs z ≤ g → add binary64 x y ≡ round binary64 false (natAbs (pos g +ℤ z)) unit
 sum-with x y g z h p l = go (p .negative) (p .count) (p .value) (p .is)
   where
