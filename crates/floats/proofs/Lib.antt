@@ -5,3 +5,8 @@ pub mod Sums
 pub mod Values
 pub mod Pairs
 pub mod Literals
+pub mod Nearness
+pub mod RelativeError
+pub mod Fractions
+pub mod Operations
+pub mod SignedParts
