@@ -1,4 +1,6 @@
 //! Prints what each root source proposes for the words on its command line, in hexadecimal digits.
+use float_source::FloatRootSource;
+use float_source::FloatSource;
 use sources::digit::DigitRootSource;
 use sources::digit::DigitSource;
 use sources::refiner::Refiner;
@@ -9,44 +11,54 @@ use sources::table::TableSource;
 use std::env;
 use std::error::AnyError;
 
-fn print_proposal<S: RootSource>(
-    rt: &LibcRuntime,
-    name: &str,
-    source: &S,
-    word: u64,
-) -> Result<(), AnyError> {
+// A source's grade, its proposal for the word, and how far that lies from the root.
+fn print_proposal<S: RootSource>(rt: &LibcRuntime, source: &S, word: u64) -> Result<(), AnyError> {
     let grade = source.grade();
     match (source.propose(word), DigitSource.propose(word)) {
         (Some(proposal), Some(root)) => {
             let distance = proposal.abs_diff(root);
             println!(
                 rt,
-                "  {name}, grade {grade}: {proposal:014x}, {distance} from the root"
+                "grade {grade}, {proposal:014x}, {distance} from the root"
             )?;
         }
-        _ => println!(rt, "  {name}, grade {grade}: no proposal")?,
+        _ => println!(rt, "grade {grade}, no proposal")?,
     }
     Ok(())
 }
 
-// What the sources and the refiners over them propose for one word.
-fn print_proposals(rt: &LibcRuntime, word: u64) -> Result<(), AnyError> {
-    println!(rt, "{word:016x}")?;
-    print_proposal(rt, "digit source", &DigitSource, word)?;
-    print_proposal(rt, "table source", &TableSource, word)?;
-    for steps in 2..4_u32 {
-        match Refiner::new(TableSource, steps) {
-            Ok(refined) => {
-                println!(rt, "  {steps} steps over")?;
-                print_proposal(rt, "table source", &refined, word)?;
-            }
-            Err(refusal) => {
-                let number = refusal.number();
-                println!(rt, "  {steps} steps are refused with {number}")?;
-            }
+// The same of a source with a number of steps over it.
+fn print_refined<S: RootSource + Drop>(
+    rt: &LibcRuntime,
+    below: S,
+    steps: u32,
+    word: u64,
+) -> Result<(), AnyError> {
+    match Refiner::new(below, steps) {
+        Ok(refiner) => print_proposal(rt, &refiner, word),
+        Err(refusal) => {
+            let number = refusal.number();
+            println!(rt, "refused with {number}")?;
+            Ok(())
         }
     }
-    Ok(())
+}
+
+// What the sources, and refiners over them, propose for one word.
+fn print_proposals(rt: &LibcRuntime, word: u64) -> Result<(), AnyError> {
+    println!(rt, "word {word:016x}")?;
+    print!(rt, "  digits: ")?;
+    print_proposal(rt, &DigitSource, word)?;
+    print!(rt, "  table: ")?;
+    print_proposal(rt, &TableSource, word)?;
+    for steps in 1..6_u32 {
+        print!(rt, "  table, steps {steps}: ")?;
+        print_refined(rt, TableSource, steps, word)?;
+    }
+    print!(rt, "  floats: ")?;
+    print_proposal(rt, &FloatSource, word)?;
+    print!(rt, "  floats, steps 1: ")?;
+    print_refined(rt, FloatSource, 1, word)
 }
 
 fn run(rt: &LibcRuntime) -> Result<(), AnyError> {
