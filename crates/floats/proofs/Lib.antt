@@ -1,3 +1,4 @@
+pub mod Comparisons
 pub mod Grid
 pub mod Nearest
 pub mod ExactSum

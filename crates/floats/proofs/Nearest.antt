@@ -1,17 +1,16 @@
 -- The nearest representable integer, ties to even: no representable one is nearer, so rounding passes none, and what a rounded sum lacks is representable.
 use mathlib.Core.Path.{_≡_, refl, sym, ap, _∙_, subst}
 use mathlib.Core.Logic.{_⊎_, inl, inr}
-use mathlib.Core.Bool.{not}
 use Prim.Native.Nat.{ℕ, zero, suc, _+_, _-_, _*_, _/_, _%_, _^_, _≤_, _<_, compare, Ordering, Ordering·lt, Ordering·eq, Ordering·gt}
 use native.Mathlib.Nat.{le-trans, le-of-eq, le-of-lt, lt-of-le-of-lt, lt-of-lt-of-le, eq-or-lt-of-le, mul-le-mul-right, lt-of-mul-lt-mul-right, div-add-mod', mod-lt, le-div-iff-mul-le, div-lt-iff-lt-mul}
 use native.Mathlib.Omega.{arith}
-use lib.Dec.{T, isLe, isEq, leb→le, nleb→lt, eqb→eq}
 use lib.IntN.{ℤ, pos, negsuc, negℤ, natAbs, _+ℤ_, _-ℤ_, +ℤ-comm}
 use lib.Pow.{pow-add, pow-pos, pow-mono, shl-lt}
 use lib.Ieee.{nearest}
 use lib.Ieee.Digits.{size-reaches}
 use lib.Ieee.Nearest.{closest}
 use Rattle.std.proofs.shelf.Signed.{ints}
+use Rattle.floats.proofs.Comparisons.{Compared, compared}
 use Rattle.floats.proofs.Grid.{Multiple, excess, Short, Representable, lt-or-le, le-or-le, finer, below, on-grid, grid-above, zero-short, sum-multiple, difference-multiple}
 
 abbrev pub rounded : ℕ → ℕ
@@ -22,19 +21,6 @@ roundedℤ (pos n) = pos (rounded n)
 roundedℤ (negsuc n) = negℤ (pos (rounded (suc n)))
 
 -- The closest multiple is the whole part, or one more.
-
-abbrev Compared : Ordering → ℕ → ℕ → Type 0
-Compared Ordering·lt a b = a ≤ b
-Compared Ordering·eq a b = a ≡ b
-Compared Ordering·gt a b = b < a
-
-compared : (a b : ℕ) → Compared (compare a b) a b
-compared a b = go (compare a b) (leb→le a b) (nleb→lt a b) (eqb→eq a b)
-  where
-    go : (o : Ordering) → (T (isLe o) → a ≤ b) → (T (not (isLe o)) → b < a) → (T (isEq o) → a ≡ b) → Compared o a b
-    go Ordering·lt h k e = h tt
-    go Ordering·eq h k e = e tt
-    go Ordering·gt h k e = k tt
 
 -- w is the closest to q + r / P
 abbrev Closest : ℕ → ℕ → ℕ → ℕ → Type 0

@@ -1,10 +1,9 @@
 -- One rounding: in the normal range the nearest float is within 2 ^ -prec of the fraction, since half of a last place is that part of the least number with all digits. Everywhere it is at most twice the fraction.
 use mathlib.Core.Path.{_≡_, sym, ap, _∙_, subst}
-use mathlib.Core.Bool.{Bool, not}
+use mathlib.Core.Bool.{Bool}
 use Prim.Native.Nat.{ℕ, zero, suc, _+_, _-_, _*_, _/_, _%_, _^_, _≤_, _<_, compare, Ordering, Ordering·lt, Ordering·eq, Ordering·gt}
 use native.Mathlib.Nat.{le-trans, le-of-eq, lt-of-le-of-lt, mul-pos, mul-comm, mul-assoc, mul-le-mul-right, lt-of-mul-lt-mul-right, mul-lt-mul-of-pos-right, div-add-mod', mod-lt, le-div-iff-mul-le, pow-succ'}
 use native.Mathlib.Omega.{arith}
-use lib.Dec.{T, isLe, isEq, leb→le, nleb→lt, eqb→eq}
 use lib.Pow.{pow-add, pow-pos}
 use lib.Ieee.{Float, Format, prec, emax, low, size, nearest, round}
 use lib.Ieee.Digits.{size-reaches}
@@ -13,20 +12,8 @@ use lib.Ieee.Exact.{HasValue, units-val}
 use lib.Ieee.Nearest.{closest}
 use lib.Ieee.Order.{drop, kept}
 use lib.Ieee.Scale.{grid, overflow, normal-of-fraction}
+use Rattle.floats.proofs.Comparisons.{Compared, compared}
 use Rattle.floats.specs.Near.{Near}
-
-abbrev Compared : Ordering → ℕ → ℕ → Type 0
-Compared Ordering·lt a b = a ≤ b
-Compared Ordering·eq a b = a ≡ b
-Compared Ordering·gt a b = b < a
-
-compared : (a b : ℕ) → Compared (compare a b) a b
-compared a b = go (compare a b) (leb→le a b) (nleb→lt a b) (eqb→eq a b)
-  where
-    go : (o : Ordering) → (T (isLe o) → a ≤ b) → (T (not (isLe o)) → b < a) → (T (isEq o) → a ≡ b) → Compared o a b
-    go Ordering·lt h k e = h tt
-    go Ordering·eq h k e = e tt
-    go Ordering·gt h k e = k tt
 
 -- x is at most half of b from a, and at most twice a
 record Half (a b x : ℕ) : Type 0 where
