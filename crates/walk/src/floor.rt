@@ -1,0 +1,92 @@
+//! The walk to the floor root.
+//!
+//! A guess that lies at most 132 from the root has a square less than `2^63` from the radicand. So
+//! the difference of the two, the residual, can be taken modulo `2^64` and read as signed.
+ghost use mathlib.Core.Path.{_≡_};
+ghost use Prim.Native.Nat.{_+_, _-_, _*_, _^_, _<_, _≤_};
+ghost use lib.IntN.{pos, negsuc, _+ℤ_};
+ghost use lib.Signed.{_<ℤ_, _≤ℤ_};
+ghost use Rattle.exact.specs.Root.{isqrt};
+ghost use Rattle.radicand.specs.Stands.{radicand-floor};
+ghost use Rattle.walk.specs.Walk.{distance, walk-limit};
+use radicand::words::Radicand;
+
+/// A floor root, what its square leaves of the radicand, and the steps that led to it.
+#[derive(Clone, Copy)]
+pub struct Walked {
+    pub root: u64,
+    pub residual: u64,
+    pub count: u64,
+}
+
+/// Walks from the proposal to the floor root, one unit at a time. The proposal must have 54 bits and
+/// lie near the root.
+pub fn walk(radicand: Radicand, proposal: u64) -> Walked
+    requires least { ⌜ 2 ^ 53 ≤ proposal ⌝ }
+    requires most { ⌜ proposal < 2 ^ 54 ⌝ }
+    requires near { ⌜ distance proposal (isqrt (radicand-floor radicand)) ≤ walk-limit ⌝ }
+    ensures root { λ r. ⌜ r .root ≡ isqrt (radicand-floor radicand) ⌝ }
+    ensures residual { λ r. ⌜ r .root * r .root + r .residual ≡ radicand-floor radicand ⌝ }
+    ensures count { λ r. ⌜ r .count ≡ distance proposal (r .root) ⌝ }
+{
+    let Radicand { hi, lo, .. } = radicand;
+    let mut place = Place {
+        guess: proposal,
+        residual: lo.wrapping_sub(proposal.wrapping_mul(proposal)).cast_signed(),
+        count: 0,
+    };
+    let root = loop {
+        if place.residual < 0 {
+            place = place.down();
+        } else if place.residual > 2 * place.guess as i64 {
+            place = place.up();
+        } else {
+            break place.guess;
+        }
+    };
+    Walked {
+        root,
+        residual: place.residual as u64,
+        count: place.count,
+    }
+}
+
+// Where a walk stands: its guess, the radicand less the square of that, and the steps so far.
+#[derive(Clone, Copy)]
+struct Place {
+    guess: u64,
+    residual: i64,
+    count: u64,
+}
+
+impl Place {
+    // One step down, from a guess above the root.
+    fn down(self) -> Place
+        requires above { ⌜ self .residual <ℤ pos 0 ⌝ }
+        requires inside { ⌜ 0 < self .guess ⌝ ∗ ⌜ self .guess < 2 ^ 55 ⌝ ∗ ⌜ self .count < 2 ^ 55 ⌝ }
+        ensures guess { λ r. ⌜ r .guess ≡ self .guess - 1 ⌝ }
+        ensures residual { λ r. ⌜ r .residual ≡ self .residual +ℤ pos (2 * self .guess - 1) ⌝ }
+        ensures count { λ r. ⌜ r .count ≡ self .count + 1 ⌝ }
+    {
+        Place {
+            guess: self.guess - 1,
+            residual: self.residual + (2 * self.guess as i64 - 1),
+            count: self.count + 1,
+        }
+    }
+
+    // One step up, from a guess whose next number is not above the root.
+    fn up(self) -> Place
+        requires below { ⌜ pos (2 * self .guess) <ℤ self .residual ⌝ }
+        requires inside { ⌜ self .guess < 2 ^ 55 ⌝ ∗ ⌜ self .count < 2 ^ 55 ⌝ }
+        ensures guess { λ r. ⌜ r .guess ≡ self .guess + 1 ⌝ }
+        ensures residual { λ r. ⌜ r .residual +ℤ pos (2 * self .guess + 1) ≡ self .residual ⌝ }
+        ensures count { λ r. ⌜ r .count ≡ self .count + 1 ⌝ }
+    {
+        Place {
+            guess: self.guess + 1,
+            residual: self.residual - (2 * self.guess as i64 + 1),
+            count: self.count + 1,
+        }
+    }
+}

@@ -1,0 +1,2 @@
+//! From a proposal to the floor root of a radicand, one more digit of it, and its rounding.
+pub mod floor;
