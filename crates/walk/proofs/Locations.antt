@@ -145,8 +145,12 @@ half-is c d h = one-shl c 64 (omega arith)
 pub half-most : (c d : ℕ) → c ≡ min d 62 → 2 ^ c ≤ 2 ^ 62
 half-most c d h = two-le c 62 (omega arith)
 
-pub location-is : (t d c : ℕ) (exact : Bool) (l : Location) → t < 2 ^ 62 → 1 ≤ d → c ≡ min (d - 1) 62 → l ≡ located-at t exact (1 * 2 ^ c % 2 ^ 64)
-    → (n e : ℕ) → Floor-to-places n e d t exact → Located n e l
-location-is t d c exact l small h m is n e f =
-    let s : l ≡ located-at t exact (2 ^ (d - 1)) = is ∙ ap (located-at t exact) (half-is c (d - 1) m ∙ ap (λ (y : ℕ). 2 ^ y) m) ∙ capped t (d - 1) exact small in
-    subst (Located n e) (sym s) (located-by n e d t exact h f)
+module _ (t d c : ℕ) (exact : Bool) (l : Location) (small : t < 2 ^ 62) (one : 1 ≤ d) (cap : c ≡ min (d - 1) 62) (is : l ≡ located-at t exact (1 * 2 ^ c % 2 ^ 64)) where
+  same : l ≡ located-at t exact (2 ^ (d - 1))
+  same = is ∙ ap (located-at t exact) (half-is c (d - 1) cap ∙ ap (λ (y : ℕ). 2 ^ y) cap) ∙ capped t (d - 1) exact small
+
+  pub floor-is : l .floor ≡ t / 2 ^ d
+  floor-is = ap (λ (y : Location). y .floor) same ∙ ap (λ (y : ℕ). t / y) (sym (two-half d one))
+
+  pub location-is : (n e : ℕ) → Floor-to-places n e d t exact → Located n e l
+  location-is n e f = subst (Located n e) (sym same) (located-by n e d t exact one f)

@@ -3,12 +3,12 @@
 //! A guess that lies at most 132 from the root has a square less than `2^63` from the radicand. So
 //! the difference of the two, the residual, can be taken modulo `2^64` and read as signed.
 ghost use mathlib.Core.Path.{_≡_};
-ghost use Prim.Native.Nat.{_+_, _-_, _*_, _^_, _<_, _≤_};
-ghost use lib.IntN.{pos, negsuc, _+ℤ_};
-ghost use lib.Signed.{_<ℤ_, _≤ℤ_};
+ghost use Prim.Native.Nat.{_+_, _-_, _*_, _^_, _<_};
+ghost use lib.IntN.{pos, _+ℤ_};
+ghost use lib.Signed.{_<ℤ_};
 ghost use Rattle.exact.specs.Root.{isqrt};
 ghost use Rattle.radicand.specs.Stands.{radicand-floor};
-ghost use Rattle.walk.specs.Walk.{distance, walk-limit};
+ghost use Rattle.walk.specs.Walk.{distance, Walkable};
 use radicand::words::Radicand;
 
 /// A floor root, what its square leaves of the radicand, and the steps that led to it.
@@ -22,9 +22,7 @@ pub struct Walked {
 /// Walks from the proposal to the floor root, one unit at a time. The proposal must have 54 bits and
 /// lie near the root.
 pub fn walk(radicand: Radicand, proposal: u64) -> Walked
-    requires least { ⌜ 2 ^ 53 ≤ proposal ⌝ }
-    requires most { ⌜ proposal < 2 ^ 54 ⌝ }
-    requires near { ⌜ distance proposal (isqrt (radicand-floor radicand)) ≤ walk-limit ⌝ }
+    requires { ⌜ Walkable radicand proposal ⌝ }
     ensures root { λ r. ⌜ r .root ≡ isqrt (radicand-floor radicand) ⌝ }
     ensures residual { λ r. ⌜ r .root * r .root + r .residual ≡ radicand-floor radicand ⌝ }
     ensures count { λ r. ⌜ r .count ≡ distance proposal (r .root) ⌝ }

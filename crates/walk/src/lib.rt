@@ -2,3 +2,4 @@
 pub mod digit;
 pub mod floor;
 pub mod location;
+pub mod rounded;

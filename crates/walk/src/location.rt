@@ -3,8 +3,7 @@
 //! The location says all that a rule of rounding can ask: the floor, the side of the half, and
 //! whether the root is the floor itself.
 ghost use mathlib.Core.Path.{_≡_};
-ghost use mathlib.Core.Bool.{Bool};
-ghost use Prim.Native.Nat.{ℕ, _*_, _^_, _<_, _≤_};
+ghost use Prim.Native.Nat.{ℕ, _/_, _^_, _<_, _≤_};
 ghost use Rattle.walk.specs.Location.{Floor-to-places, Located, side-of-half, located-at, nearest-choice, Choice-is-nearest};
 
 /// The side of the middle between a whole number and the next.
@@ -28,7 +27,8 @@ pub struct Location {
 pub fn located(root: u64, exact: bool, dropped: u32) -> Location
     requires root { ⌜ root < 2 ^ 62 ⌝ }
     requires dropped { ⌜ 1 ≤ dropped ⌝ }
-    ensures { λ r. ⌜ ((n e : ℕ) → Floor-to-places n e dropped root exact → Located n e r) ⌝ }
+    ensures floor { λ r. ⌜ r .floor ≡ root / 2 ^ dropped ⌝ }
+    ensures located { λ r. ⌜ ((n e : ℕ) → Floor-to-places n e dropped root exact → Located n e r) ⌝ }
 {
     split(root, exact, 1 << (dropped - 1).min(62))
 }

@@ -1,7 +1,7 @@
 use native.Mathlib.Omega.{arith}
 use Prim.Native.Nat.{_-_}
 use lib.Pow.{pow-pos}
-use Rattle.walk.proofs.Locations.{half-is, half-most, location-is}
+use Rattle.walk.proofs.Locations.{half-is, half-most, floor-is, location-is}
 use Rattle.walk.proofs.location.located.Needs as need
 
 pub split-requires : need.split-requires
@@ -10,4 +10,7 @@ split-requires c κs =
     record { least = omega (arith, e, pow-pos (c .min .result)); most = omega (arith, e, half-most (c .min .result) (c .args .dropped - 1) (c .min .ensures)) }
 
 pub returns : need.returns
-returns c = location-is (c .args .root) (c .args .dropped) (c .min .result) (c .args .exact) (c .split .result) (c .pre .root) (c .pre .dropped) (c .min .ensures) (c .split .ensures)
+returns c =
+    let is = floor-is (c .args .root) (c .args .dropped) (c .min .result) (c .args .exact) (c .split .result) (c .pre .root) (c .pre .dropped) (c .min .ensures) (c .split .ensures) in
+    let at = location-is (c .args .root) (c .args .dropped) (c .min .result) (c .args .exact) (c .split .result) (c .pre .root) (c .pre .dropped) (c .min .ensures) (c .split .ensures) in
+    record { floor = is; located = at }
