@@ -1,6 +1,6 @@
 -- The walk over whole numbers: near the root the residual modulo 2 ^ 64 tells the signed residual, its sign and
 -- size tell on which side the root lies, and a step takes the next odd number from it.
-use mathlib.Core.Path.{_≡_, ap, _∙_}
+use mathlib.Core.Path.{_≡_, ap, _∙_, subst}
 use mathlib.Core.Logic.{_⊎_, inl, inr}
 use Prim.Native.Nat.{ℕ, zero, suc, _+_, _-_, _*_, _%_, _^_, _≤_, _<_}
 use native.Mathlib.Nat.{mul-le-mul}
@@ -12,8 +12,9 @@ use Rattle.std.proofs.shelf.Signed.{ints}
 use Rattle.exact.specs.Root.{Floor-root, isqrt}
 use Rattle.exact.proofs.Squares.{lt-of-squares, lt-or-le, squares-le}
 use Rattle.exact.proofs.Roots.{isqrt-is, is-isqrt}
-use Rattle.radicand.specs.Stands.{whole}
-use Rattle.walk.specs.Walk.{distance, walk-limit}
+use Rattle.radicand.specs.declared.words.Radicand.{Radicand}
+use Rattle.radicand.specs.Stands.{whole, radicand-floor}
+use Rattle.walk.specs.Walk.{distance, walk-limit, Walkable}
 
 -- a difference of less than 2 ^ 63 either way is not lost modulo 2 ^ 64
 pub residual-is : (hi lo square : ℕ) → lo < 2 ^ 64 → whole hi lo < square + 2 ^ 63 → square < whole hi lo + 2 ^ 63
@@ -64,3 +65,12 @@ one-down (suc g) h p e = let f : h ≡ g = omega arith in omega (arith, ap (λ (
 
 pub one-up : (g h : ℕ) → h ≡ g + 1 → h * h ≡ g * g + 2 * g + 1
 one-up g h e = omega (arith, ap (λ (x : ℕ). x * x) e)
+
+-- a proposal near a known floor root r
+pub starts-near : (radicand : Radicand) (p r : ℕ) → r * r ≤ radicand-floor radicand → radicand-floor radicand < (r + 1) * (r + 1)
+    → 2 ^ 53 ≤ p → p < 2 ^ 54 → distance p r ≤ walk-limit → Walkable radicand p
+starts-near radicand p r low high least most near = record {
+  least = least;
+  most = most;
+  near = subst (λ (x : ℕ). distance p x ≤ walk-limit) (is-isqrt (radicand-floor radicand) r (record { low = low; high = high })) near;
+}

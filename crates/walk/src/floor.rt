@@ -30,7 +30,8 @@ pub fn walk(radicand: Radicand, proposal: u64) -> Walked
     let Radicand { hi, lo, .. } = radicand;
     let mut place = Place {
         guess: proposal,
-        residual: lo.wrapping_sub(proposal.wrapping_mul(proposal)).cast_signed(),
+        residual: lo.wrapping_sub(proposal.wrapping_mul(proposal))
+            .cast_signed(),
         count: 0,
     };
     let root = loop {
@@ -86,5 +87,41 @@ impl Place {
             residual: self.residual - (2 * self.guess as i64 + 1),
             count: self.count + 1,
         }
+    }
+}
+
+#[cfg(test)]
+mod tests {
+    use super::*;
+    use std::test::*;
+
+    #[test]
+    fn one_bit_less() -> Result<(), Fail> {
+        // the floor root of 2^106 - 1 is 2^53 - 1
+        let radicand = Radicand {
+            hi: (1 << 42) - 1,
+            lo: u64::MAX,
+            bits: 0,
+            cut: false,
+        };
+        let walked = walk(radicand, (1 << 53) + 131);
+        check_eq(walked.root, (1 << 53) - 1)?;
+        check_eq(walked.residual, (1 << 54) - 2)?;
+        check_eq(walked.count, 132)
+    }
+
+    #[test]
+    fn one_bit_more() -> Result<(), Fail> {
+        // the root of 2^108 is 2^54
+        let radicand = Radicand {
+            hi: 1 << 44,
+            lo: 0,
+            bits: 0,
+            cut: false,
+        };
+        let walked = walk(radicand, (1 << 54) - 100);
+        check_eq(walked.root, 1 << 54)?;
+        check_eq(walked.residual, 0)?;
+        check_eq(walked.count, 100)
     }
 }

@@ -77,3 +77,34 @@ pub fn nearest(location: Location) -> u64
 pub fn choice_is_nearest()
     ensures { λ _. ⌜ Choice-is-nearest ⌝ }
 {}
+
+#[cfg(test)]
+mod tests {
+    use super::*;
+    use std::test::*;
+
+    fn location(floor: u64, half: Half, exact: bool) -> Location
+        ensures { λ r. ⌜ r .floor ≡ floor ⌝ }
+    {
+        Location { floor, half, exact }
+    }
+
+    #[test]
+    fn sides_of_a_half() -> Result<(), Fail> {
+        // with two bits dropped: 2, 2.25, 2.5, a little more than that, and 2.75
+        check_eq(located(8, true, 2), location(2, Half::Below, true))?;
+        check_eq(located(9, true, 2), location(2, Half::Below, false))?;
+        check_eq(located(10, true, 2), location(2, Half::At, false))?;
+        check_eq(located(10, false, 2), location(2, Half::Above, false))?;
+        check_eq(located(11, false, 2), location(2, Half::Above, false))?;
+        check_eq(located(11, false, 1000), location(0, Half::Below, false))
+    }
+
+    #[test]
+    fn halves_go_to_even() -> Result<(), Fail> {
+        check_eq(nearest(location(2, Half::Below, false)), 2)?;
+        check_eq(nearest(location(2, Half::At, false)), 2)?;
+        check_eq(nearest(location(2, Half::Above, false)), 3)?;
+        check_eq(nearest(location(3, Half::At, false)), 4)
+    }
+}

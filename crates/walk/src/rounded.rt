@@ -20,7 +20,7 @@ ghost use Rattle.walk.specs.Rounded.{longer-root, dropped-bits, Rounds-to};
 
 /// A root rounded to a precision: `significand * 2^dropped` in units of half the floor root's, or
 /// one exponent more after a carry; and the steps of the walk.
-#[derive(Clone, Copy)]
+#[derive(Clone, Copy, PartialEq, Eq, Debug)]
 pub struct Rounded {
     pub significand: u64,
     pub dropped: u32,
@@ -61,7 +61,9 @@ pub fn rounded_root(radicand: Radicand, proposal: u64, precision: u32, least: u3
 fn bits_to_drop(root: u64, precision: u32, least: u32) -> u32
     ensures { λ r. ⌜ r ≡ max (64 - leadingZeros 64 root - precision) least ⌝ }
 {
-    (64 - root.leading_zeros()).saturating_sub(precision).max(least)
+    (64 - root.leading_zeros())
+        .saturating_sub(precision)
+        .max(least)
 }
 
 // Whether a root is exact: its square leaves nothing, and nothing was cut off.
@@ -79,5 +81,98 @@ fn without_carry(significand: u64, limit: u64) -> u64
         limit / 2
     } else {
         significand
+    }
+}
+
+#[cfg(test)]
+mod tests {
+    use super::*;
+    use std::test::*;
+
+    fn rounded(significand: u64, dropped: u32, carried: bool, count: u64) -> Rounded {
+        Rounded {
+            significand,
+            dropped,
+            carried,
+            count,
+        }
+    }
+
+    #[test]
+    fn ties_go_to_even() -> Result<(), Fail> {
+        // the root 2^53 + 1 lies in the middle of 2^53 and 2^53 + 2
+        let tie = Radicand {
+            hi: 1 << 42,
+            lo: (1 << 54) + 1,
+            bits: 0,
+            cut: false,
+        };
+        check_eq(
+            rounded_root(tie, 1 << 53, 53, 0),
+            rounded(1 << 52, 2, false, 1),
+        )?;
+        // and 2^53 + 3 in the middle of 2^53 + 2 and 2^53 + 4
+        let next = Radicand {
+            hi: 1 << 42,
+            lo: 3 * (1 << 54) + 9,
+            bits: 0,
+            cut: false,
+        };
+        check_eq(
+            rounded_root(next, 1 << 53, 53, 0),
+            rounded((1 << 52) + 2, 2, false, 3),
+        )
+    }
+
+    #[test]
+    fn what_was_cut_turns_a_tie() -> Result<(), Fail> {
+        let above = Radicand {
+            hi: 1 << 42,
+            lo: (1 << 54) + 1,
+            bits: 0,
+            cut: true,
+        };
+        check_eq(
+            rounded_root(above, 1 << 53, 53, 0),
+            rounded((1 << 52) + 1, 2, false, 1),
+        )
+    }
+
+    #[test]
+    fn carries() -> Result<(), Fail> {
+        // the root 2^54 - 1 lies in the middle of 2^54 - 2 and 2^54
+        let last = Radicand {
+            hi: (1 << 44) - 1,
+            lo: u64::MAX - (1 << 55) + 2,
+            bits: 0,
+            cut: false,
+        };
+        check_eq(
+            rounded_root(last, (1 << 54) - 1, 53, 0),
+            rounded(1 << 52, 2, true, 0),
+        )
+    }
+
+    #[test]
+    fn least_bits() -> Result<(), Fail> {
+        // the root 2^53, that is 2^54 with one digit more, at units of its double and of more
+        let power = Radicand {
+            hi: 1 << 42,
+            lo: 0,
+            bits: 0,
+            cut: false,
+        };
+        check_eq(
+            rounded_root(power, 1 << 53, 53, 55),
+            rounded(0, 55, false, 0),
+        )?;
+        check_eq(
+            rounded_root(power, 1 << 53, 53, 54),
+            rounded(1, 54, false, 0),
+        )?;
+        check_eq(
+            rounded_root(power, 1 << 53, 53, 4000),
+            rounded(0, 4000, false, 0),
+        )
     }
 }
