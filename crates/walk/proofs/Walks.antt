@@ -5,12 +5,13 @@ use mathlib.Core.Logic.{_⊎_, inl, inr}
 use Prim.Native.Nat.{ℕ, zero, suc, _+_, _-_, _*_, _%_, _^_, _≤_, _<_}
 use native.Mathlib.Nat.{mul-le-mul}
 use native.Mathlib.Omega.{arith}
-use lib.IntN.{pos, _+ℤ_}
+use lib.IntN.{ℤ, pos, _+ℤ_}
+use lib.Signed.{_<ℤ_}
 use mir.Val.{toZ}
 use mir.Syntax.{w64}
 use Rattle.std.proofs.shelf.Signed.{ints}
 use Rattle.exact.specs.Root.{Floor-root, isqrt}
-use Rattle.exact.proofs.Squares.{lt-of-squares, lt-or-le, squares-le}
+use Rattle.exact.proofs.Squares.{lt-of-squares, lt-or-le, squares-le, le-unless}
 use Rattle.exact.proofs.Roots.{isqrt-is, is-isqrt}
 use Rattle.radicand.specs.declared.words.Radicand.{Radicand}
 use Rattle.radicand.specs.Stands.{whole, radicand-floor}
@@ -55,6 +56,14 @@ lies-below n g h = lt-of-squares (isqrt n) g (omega (arith, isqrt-is n .low))
 
 pub lies-above : (n g : ℕ) → g * g + 2 * g < n → g < isqrt n
 lies-above n g h = let a : g + 1 < isqrt n + 1 = lt-of-squares (g + 1) (isqrt n + 1) (omega (arith, isqrt-is n .high)) in omega arith
+
+-- the signed residual r of a guess g that is neither too high nor too low
+module _ (n g : ℕ) (r : ℤ) (residual : pos (g * g) +ℤ r ≡ pos n) where
+  pub not-high : (r <ℤ pos 0 → ⊥) → g * g ≤ n
+  not-high h = le-unless (g * g) n (λ (x : n < g * g). h (omega (arith, ints)))
+
+  pub not-low : (pos (2 * g) <ℤ r → ⊥) → n ≤ g * g + 2 * g
+  not-low h = le-unless n (g * g + 2 * g) (λ (x : g * g + 2 * g < n). h (omega (arith, ints)))
 
 pub arrived : (n g : ℕ) → g * g ≤ n → n ≤ g * g + 2 * g → g ≡ isqrt n
 arrived n g a b = is-isqrt n g (record { low = a; high = omega arith })

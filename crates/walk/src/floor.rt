@@ -6,6 +6,7 @@ ghost use mathlib.Core.Path.{_≡_};
 ghost use Prim.Native.Nat.{_+_, _-_, _*_, _^_, _<_};
 ghost use lib.IntN.{pos, _+ℤ_};
 ghost use lib.Signed.{_<ℤ_};
+ghost use Rattle.std.specs.Orderings.{Decides};
 ghost use Rattle.exact.specs.Root.{isqrt};
 ghost use Rattle.radicand.specs.Stands.{radicand-floor};
 ghost use Rattle.walk.specs.Walk.{distance, Walkable};
@@ -35,9 +36,9 @@ pub fn walk(radicand: Radicand, proposal: u64) -> Walked
         count: 0,
     };
     let root = loop {
-        if place.residual < 0 {
+        if place.is_too_high() {
             place = place.down();
-        } else if place.residual > 2 * place.guess as i64 {
+        } else if place.is_too_low() {
             place = place.up();
         } else {
             break place.guess;
@@ -59,32 +60,56 @@ struct Place {
 }
 
 impl Place {
+    // Whether the guess lies above the root: its square is above the radicand.
+    fn is_too_high(self) -> bool
+        ensures { λ r. ⌜ Decides r (self .residual <ℤ pos 0) ⌝ }
+    {
+        self.residual < 0
+    }
+
+    // Whether the next number is not above the root: its square takes `2 * guess + 1` more.
+    fn is_too_low(self) -> bool
+        requires { ⌜ self .guess < 2 ^ 55 ⌝ }
+        ensures { λ r. ⌜ Decides r (pos (2 * self .guess) <ℤ self .residual) ⌝ }
+    {
+        self.residual > 2 * self.guess as i64
+    }
+
     // One step down, from a guess above the root.
     fn down(self) -> Place
         requires above { ⌜ self .residual <ℤ pos 0 ⌝ }
-        requires inside { ⌜ 0 < self .guess ⌝ ∗ ⌜ self .guess < 2 ^ 55 ⌝ ∗ ⌜ self .count < 2 ^ 55 ⌝ }
+        requires least { ⌜ 0 < self .guess ⌝ }
+        requires most { ⌜ self .guess < 2 ^ 55 ⌝ }
+        requires count { ⌜ self .count < 2 ^ 55 ⌝ }
         ensures guess { λ r. ⌜ r .guess ≡ self .guess - 1 ⌝ }
         ensures residual { λ r. ⌜ r .residual ≡ self .residual +ℤ pos (2 * self .guess - 1) ⌝ }
         ensures count { λ r. ⌜ r .count ≡ self .count + 1 ⌝ }
     {
-        Place {
-            guess: self.guess - 1,
-            residual: self.residual + (2 * self.guess as i64 - 1),
-            count: self.count + 1,
-        }
+        self.step_to(self.guess - 1, self.residual + (2 * self.guess as i64 - 1))
     }
 
     // One step up, from a guess whose next number is not above the root.
     fn up(self) -> Place
         requires below { ⌜ pos (2 * self .guess) <ℤ self .residual ⌝ }
-        requires inside { ⌜ self .guess < 2 ^ 55 ⌝ ∗ ⌜ self .count < 2 ^ 55 ⌝ }
+        requires most { ⌜ self .guess < 2 ^ 55 ⌝ }
+        requires count { ⌜ self .count < 2 ^ 55 ⌝ }
         ensures guess { λ r. ⌜ r .guess ≡ self .guess + 1 ⌝ }
         ensures residual { λ r. ⌜ r .residual +ℤ pos (2 * self .guess + 1) ≡ self .residual ⌝ }
         ensures count { λ r. ⌜ r .count ≡ self .count + 1 ⌝ }
     {
+        self.step_to(self.guess + 1, self.residual - (2 * self.guess as i64 + 1))
+    }
+
+    // Another guess with its residual, one step on.
+    fn step_to(self, guess: u64, residual: i64) -> Place
+        requires { ⌜ self .count < 2 ^ 55 ⌝ }
+        ensures guess { λ r. ⌜ r .guess ≡ guess ⌝ }
+        ensures residual { λ r. ⌜ r .residual ≡ residual ⌝ }
+        ensures count { λ r. ⌜ r .count ≡ self .count + 1 ⌝ }
+    {
         Place {
-            guess: self.guess + 1,
-            residual: self.residual - (2 * self.guess as i64 + 1),
+            guess,
+            residual,
             count: self.count + 1,
         }
     }
