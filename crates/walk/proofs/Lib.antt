@@ -2,4 +2,4 @@ pub mod Walks
 pub mod NearestChoice
 pub mod Locations
 pub mod Scales
-pub mod Lengths
+pub mod RoundedRoots

@@ -1,13 +1,13 @@
 -- Dropping the last bits of a floor root t: with u half of the new unit, t = k * 2 u + tail, and comparing the tail
 -- with 0 and u compares the root itself with k and k + 1/2, since what t leaves out is less than one of its units.
 use mathlib.Core.Path.{_≡_, refl, sym, ap, _∙_, subst}
-use mathlib.Core.Logic.{_⊎_, inl, inr}
+use mathlib.Core.Logic.{inl, inr}
 use mathlib.Core.Bool.{Bool, true, false, true≢false, cond, _&&_}
 use Prim.Native.Nat.{ℕ, min, _+_, _-_, _*_, _/_, _%_, _^_, _≤_, _<_}
 use native.Mathlib.Nat.{mul-le-mul-right, le-of-mul-le-mul-right, lt-of-mul-lt-mul-right, eq-of-mul-eq-mul-right, mul-pos, div-add-mod', div-eq-of-lt, mod-eq-of-lt, lt-of-lt-of-le}
 use native.Mathlib.Omega.{arith}
 use lib.Dec.{eqb, ltb}
-use lib.Pow.{pow-add, pow-pos}
+use lib.Pow.{pow-pos}
 use borrow.Author.Tests.{eqb-true, eqb-false, ltb-true, ltb-false, lt-ltb}
 use Rattle.std.proofs.shelf.Bits.{one-shl, mod-below}
 use Rattle.exact.proofs.Squares.{squares-le, le-unless, lt-or-le, four-pos, four-two, two-half, two-le}

@@ -1,15 +1,15 @@
 -- The choice by a location: below the half the floor k, above it k + 1, and at it the even one of both is nearest.
-use mathlib.Core.Path.{_≡_, refl, sym, ap, subst}
-use mathlib.Core.Logic.{_⊎_, inl, inr}
-use Prim.Native.Nat.{ℕ, zero, suc, _+_, _-_, _*_, _%_, _^_, _≤_, _<_}
-use native.Mathlib.Nat.{mul-le-mul-right, mul-lt-mul-of-pos-right, eq-zero-or-pos}
+use mathlib.Core.Path.{_≡_, sym, ap, subst}
+use mathlib.Core.Logic.{inl, inr}
+use Prim.Native.Nat.{ℕ, _+_, _-_, _*_, _%_, _^_, _≤_, _<_}
+use native.Mathlib.Nat.{mul-lt-mul-of-pos-right, eq-zero-or-pos}
 use native.Mathlib.Omega.{arith}
 use Rattle.exact.specs.Length.{Nearest-whole}
-use Rattle.exact.proofs.Squares.{squares-le, four-pos}
+use Rattle.exact.proofs.Squares.{four-pos}
 use Rattle.walk.specs.declared.location.Half.{Half}
 use Rattle.walk.specs.declared.location.Half.the-variants.{Below, At, Above}
 use Rattle.walk.specs.declared.location.Location.{Location}
-use Rattle.walk.specs.Location.{Side, Located, nearer, Choice-is-nearest}
+use Rattle.walk.specs.Location.{Side, nearer, Choice-is-nearest}
 
 -- the root of n lies from k on and below k + 1, in units whose square is x
 module _ (n k x : ℕ) (x-pos : 0 < x) (low : k * k * x ≤ n) (high : n < (k + 1) * (k + 1) * x) where

@@ -1,7 +1,7 @@
 -- The walk over whole numbers: near the root the residual modulo 2 ^ 64 tells the signed residual, its sign and
 -- size tell on which side the root lies, and a step takes the next odd number from it.
 use mathlib.Core.Path.{_≡_, ap, _∙_, subst}
-use mathlib.Core.Logic.{_⊎_, inl, inr}
+use mathlib.Core.Logic.{inl, inr}
 use Prim.Native.Nat.{ℕ, zero, suc, _+_, _-_, _*_, _%_, _^_, _≤_, _<_}
 use native.Mathlib.Nat.{mul-le-mul}
 use native.Mathlib.Omega.{arith}

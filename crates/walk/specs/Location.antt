@@ -32,6 +32,22 @@ pub record Located (n e : ℕ) (l : Location) : Type 0 where
   pub is-exact : l .exact ≡ true → l .floor * l .floor * 4 ^ e ≡ n
   pub not-exact : l .exact ≡ false → l .floor * l .floor * 4 ^ e ≡ n → ⊥
 
+-- the floor or the next number, whichever is nearer; of two equally near the even one
+abbrev pub nearer : Half → ℕ → ℕ
+nearer Below k = k
+nearer At k = k + k % 2
+nearer Above k = k + 1
+
+-- the same by a location
+abbrev pub nearest-choice : Location → ℕ
+nearest-choice l = nearer (l .half) (l .floor)
+
+-- a location tells enough to choose the nearest whole number
+abbrev pub Choice-is-nearest : Type 0
+Choice-is-nearest = (n e : ℕ) (l : Location) → Located n e l → Nearest-whole n e (nearest-choice l)
+
+-- The location, computed.
+
 -- the side of the half of a tail, or of a little more than it where it is not exact
 abbrev pub side-of-half : ℕ → ℕ → Bool → Half
 side-of-half tail half exact = cond (ltb tail half) Below (cond (eqb tail half && exact) At Above)
@@ -43,16 +59,3 @@ located-at root exact half = record {
   half = side-of-half (root % (2 * half)) half exact;
   exact = eqb (root % (2 * half)) 0 && exact;
 }
-
--- the floor or the next number, whichever is nearer; of two equally near the even one
-abbrev pub nearer : Half → ℕ → ℕ
-nearer Below k = k
-nearer At k = k + k % 2
-nearer Above k = k + 1
-
-abbrev pub nearest-choice : Location → ℕ
-nearest-choice l = nearer (l .half) (l .floor)
-
--- a location tells enough to choose the nearest whole number
-abbrev pub Choice-is-nearest : Type 0
-Choice-is-nearest = (n e : ℕ) (l : Location) → Located n e l → Nearest-whole n e (nearest-choice l)

@@ -1,6 +1,6 @@
 -- The rounded root of a radicand in words.
 use mathlib.Core.Path.{_≡_}
-use mathlib.Core.Bool.{Bool, true, false, cond}
+use mathlib.Core.Bool.{Bool, cond}
 use Prim.Native.Nat.{ℕ, max, _+_, _-_, _*_, _^_}
 use lib.Ieee.{size}
 use Rattle.exact.specs.Root.{isqrt}

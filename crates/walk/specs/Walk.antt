@@ -1,5 +1,5 @@
 -- The walk from a proposal to the floor root.
-use Prim.Native.Nat.{ℕ, _+_, _-_, _*_, _^_, _≤_, _<_}
+use Prim.Native.Nat.{ℕ, _+_, _-_, _^_, _≤_, _<_}
 use Rattle.exact.specs.Root.{isqrt}
 use Rattle.radicand.specs.declared.words.Radicand.{Radicand}
 use Rattle.radicand.specs.Stands.{radicand-floor}

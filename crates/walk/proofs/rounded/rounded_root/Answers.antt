@@ -1,9 +1,8 @@
 use native.Mathlib.Omega.{arith}
 use native.Mathlib.Nat.{div-le-self}
-use mathlib.Core.Path.{_≡_}
 use Prim.Native.Nat.{_^_}
 use Rattle.radicand.specs.Stands.{radicand-floor}
-use Rattle.walk.proofs.Lengths.{residual-small, longer, drops-one, drops-are, rounds-to}
+use Rattle.walk.proofs.RoundedRoots.{residual-small, longer, drops-one, drops-are, rounds-to}
 use Rattle.walk.proofs.rounded.rounded_root.Needs as need
 
 pub ghost-floor : need.ghost-floor

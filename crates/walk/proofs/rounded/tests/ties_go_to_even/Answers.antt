@@ -1,4 +1,4 @@
-use Prim.Native.Nat.{_+_, _-_, _^_}
+use Prim.Native.Nat.{_+_, _^_}
 use lib.Dec.{lit<, lit≤}
 use Rattle.walk.proofs.Walks.{starts-near}
 use Rattle.walk.proofs.rounded.tests.ties_go_to_even.Needs as need

@@ -4,7 +4,7 @@ use mathlib.Core.Path.{_≡_, refl, sym, ap, _∙_, subst}
 use mathlib.Core.Logic.{_⊎_, inl, inr}
 use mathlib.Core.Bool.{Bool, true, false, cond, not, _&&_}
 use Prim.Native.Nat.{ℕ, max, _+_, _-_, _*_, _/_, _%_, _^_, _≤_, _<_}
-use native.Mathlib.Nat.{lt-of-lt-of-le, le-antisymm}
+use native.Mathlib.Nat.{le-antisymm}
 use native.Mathlib.Omega.{arith}
 use lib.Count.{leadingZeros}
 use lib.Dec.{eqb}
@@ -14,7 +14,7 @@ use borrow.Author.Tests.{eqb-true, eqb-false}
 use Rattle.std.proofs.shelf.Bits.{one-shl}
 use Rattle.exact.specs.Root.{Floor-root, isqrt}
 use Rattle.exact.specs.Length.{Ulp, Nearest-whole, Length, kept, carried}
-use Rattle.exact.proofs.Squares.{lt-of-squares, lt-or-le, two-le, two-half}
+use Rattle.exact.proofs.Squares.{lt-of-squares, lt-or-le, two-half}
 use Rattle.exact.proofs.Roots.{isqrt-is, is-isqrt}
 use Rattle.exact.proofs.Ulps.{significand-most}
 use Rattle.exact.proofs.Bits.{Has-bits, bits-are, bits-most, bits-least, short-of}
