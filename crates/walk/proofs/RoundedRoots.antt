@@ -54,6 +54,7 @@ longer radicand p w t start bits root residual next =
     let near : distance p r ≤ walk-limit = subst (λ (x : ℕ). distance p x ≤ walk-limit) (sym root) (start .near) in
     record { square = omega arith; small = small; least = omega arith; most = omega arith }
 
+-- the bits of a root, as the code counts them
 abbrev bits : ℕ → ℕ
 bits t = 64 - leadingZeros 64 t
 
@@ -77,9 +78,11 @@ module _ (radicand : Radicand) (t q : ℕ) (long : Longer radicand t q) where
     pub drops-are : d ≡ dropped-bits p least (longer-root radicand)
     drops-are = drops ∙ ap (λ (b : ℕ). max (b - p) least) (bits-size ∙ ap size longer-is)
 
+    -- what is left has at most p bits
     fits : t < 2 ^ (p + d)
     fits = short-of t (bits t) has-bits (p + d) (omega arith)
 
+    -- and all p, unless more were dropped for the least exponent
     full : (e : ℕ) → (d ≡ least → e ≡ 0) → (e ≡ 0) ⊎ (2 ^ (p + d) ≤ 2 * t)
     full e z =
         elim (lt-or-le least (bits t - p)) [
@@ -107,6 +110,7 @@ module _ (p : ℕ) (one : 1 ≤ p) (short : p ≤ 53) where
       let d : k ≡ 2 ^ p → ⊥ = λ s. eqb-false k _ q (s ∙ sym limit-is) in
       kept u h (omega (arith, significand-most p n e u k h))
 
+-- the steps of the code, joined
 pub rounds-to : (radicand : Radicand) (t q p least d k s : ℕ) (exact : Bool) (l : Location) → Longer radicand t q → 1 ≤ p → p ≤ 53
     → d ≡ max (bits t - p) least → exact ≡ (eqb q 0 && not (radicand .cut)) → ((n e : ℕ) → Floor-to-places n e d t exact → Located n e l)
     → k ≡ nearest-choice l → s ≡ cond (eqb k (1 * 2 ^ p % 2 ^ 64)) (1 * 2 ^ p % 2 ^ 64 / 2) k
