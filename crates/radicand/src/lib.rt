@@ -1,0 +1,2 @@
+//! Exact radicands in words.
+pub mod words;

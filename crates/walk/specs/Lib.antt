@@ -1,0 +1,4 @@
+pub mod Walk
+pub mod Digit
+pub mod Location
+pub mod Rounded
