@@ -1,2 +1,4 @@
 //! Exact radicands in words.
+pub mod limbs;
+pub mod wide;
 pub mod words;
