@@ -77,3 +77,16 @@ pub fn lower(wide: Wide, by: u32) -> Truncated
         cut: wide.part % below != 0,
     }
 }
+
+/// The number over `4^places`, cut to whole units, for any `places`: beyond 84 no unit is left.
+pub fn far(wide: Wide, places: u32) -> Truncated
+    ensures { λ r. ⌜ Truncates (units (r .wide)) (r .cut) (units wide) (4 ^ places) ⌝ }
+{
+    let first = lower(wide, 2 * places.min(28));
+    let second = lower(first.wide, 2 * places.saturating_sub(28).min(28));
+    let third = lower(second.wide, 2 * places.saturating_sub(56).min(28));
+    Truncated {
+        wide: third.wide,
+        cut: first.cut | second.cut | third.cut,
+    }
+}

@@ -1,0 +1,34 @@
+-- Numbers in limbs after several cuts: a far side, and a number in the scale of a head.
+use mathlib.Core.Path.{_≡_, refl, sym, ap, _∙_, subst}
+use mathlib.Core.Bool.{Bool, _||_}
+use mathlib.Core.Logic.{_⊎_, inl, inr}
+use Prim.Native.Nat.{ℕ, _+_, _-_, _*_, _^_, _≤_, _<_}
+use native.Mathlib.Nat.{mul-pos, mul-le-mul-right, lt-of-not-le, pow-le-pow-right}
+use native.Mathlib.Omega.{arith}
+use Rattle.exact.proofs.Squares.{lt-or-le, le-of-squares, four-pos}
+use Rattle.radicand.specs.Truncation.{Truncates}
+use Rattle.radicand.proofs.Scales.{scale, three-cuts}
+use Rattle.radicand.proofs.Truncations.{cut-twice, same-fraction, below-one}
+
+pub quotient-below : (n b v m : ℕ) (cut : Bool) → v < b * m → Truncates n cut v m → n < b
+quotient-below n b v m cut h t = lt-of-not-le (λ (g : b ≤ n). omega (arith, t .whole, mul-le-mul-right m g))
+
+-- the units of a number, cut once more to what the words count
+pub scaled-down : (n k x q p : ℕ) (c d : Bool) → p ≤ 57 → Truncates n c (x * 2 ^ 56) q → Truncates k d n (2 ^ (114 - 2 * p)) → Truncates k (c || d) (x * 4 ^ (23 + p)) (4 ^ 52 * q)
+scaled-down n k x q p c d P t s =
+    same-fraction k (c || d) (x * 2 ^ 56) (q * 2 ^ (114 - 2 * p)) (x * 4 ^ (23 + p)) (4 ^ 52 * q)
+    (omega (arith, t .short))
+    (omega (arith, ap (λ (y : ℕ). x * q * y) (scale p P)))
+    (cut-twice n k c d (x * 2 ^ 56) q (2 ^ (114 - 2 * p)) t s)
+
+-- three cuts, of at most 28 places each, of a number of three limbs
+module _ (w p a b c i j k : ℕ) (x y z : Bool) (W : w < 2 ^ 168) where
+  pub far-cut : (p ≤ 84 → a + b + c ≡ p) → (84 ≤ p → a + b + c ≡ 84) → Truncates i x w (2 ^ (2 * a)) → Truncates j y i (2 ^ (2 * b)) → Truncates k z j (2 ^ (2 * c)) → Truncates k (x || y || z) w (4 ^ p)
+  far-cut near beyond r s t =
+      let all = cut-twice j k (x || y) z w (2 ^ (2 * a) * 2 ^ (2 * b)) (2 ^ (2 * c)) (cut-twice i j x y w (2 ^ (2 * a)) (2 ^ (2 * b)) r s) t in
+      elim (lt-or-le 84 p) [
+        | inr h ↦ subst (Truncates k (x || y || z) w) (three-cuts a b c p (near h)) all
+        | inl h ↦
+          let l : 4 ^ 84 ≤ 4 ^ p = let g : 84 ≤ p = omega arith in pow-le-pow-right {n = 4} (omega arith) g in
+          below-one k (x || y || z) w (4 ^ 84) (4 ^ p) W l (subst (Truncates k (x || y || z) w) (three-cuts a b c 84 (beyond (omega arith))) all)
+      ]
