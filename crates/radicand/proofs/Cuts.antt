@@ -3,9 +3,11 @@ use mathlib.Core.Path.{_≡_, refl, sym, ap, _∙_, subst}
 use mathlib.Core.Bool.{Bool, _||_}
 use mathlib.Core.Logic.{_⊎_, inl, inr}
 use Prim.Native.Nat.{ℕ, _+_, _-_, _*_, _^_, _≤_, _<_}
-use native.Mathlib.Nat.{mul-pos, mul-le-mul-right, lt-of-not-le, pow-le-pow-right}
+use native.Mathlib.Nat.{mul-le-mul-right, lt-of-not-le, pow-le-pow-right}
 use native.Mathlib.Omega.{arith}
-use Rattle.exact.proofs.Squares.{lt-or-le, le-of-squares, four-pos}
+use lib.Pow.{pow-add}
+use Rattle.exact.proofs.Squares.{lt-or-le, four-pos}
+use Rattle.radicand.specs.Sides.{denominator}
 use Rattle.radicand.specs.Truncation.{Truncates}
 use Rattle.radicand.proofs.Scales.{scale, three-cuts}
 use Rattle.radicand.proofs.Truncations.{cut-twice, same-fraction, below-one}
@@ -14,12 +16,13 @@ pub quotient-below : (n b v m : ℕ) (cut : Bool) → v < b * m → Truncates n 
 quotient-below n b v m cut h t = lt-of-not-le (λ (g : b ≤ n). omega (arith, t .whole, mul-le-mul-right m g))
 
 -- the units of a number, cut once more to what the words count
-pub scaled-down : (n k x q p : ℕ) (c d : Bool) → p ≤ 57 → Truncates n c (x * 2 ^ 56) q → Truncates k d n (2 ^ (114 - 2 * p)) → Truncates k (c || d) (x * 4 ^ (23 + p)) (4 ^ 52 * q)
-scaled-down n k x q p c d P t s =
-    same-fraction k (c || d) (x * 2 ^ 56) (q * 2 ^ (114 - 2 * p)) (x * 4 ^ (23 + p)) (4 ^ 52 * q)
-    (omega (arith, t .short))
-    (omega (arith, ap (λ (y : ℕ). x * q * y) (scale p P)))
-    (cut-twice n k c d (x * 2 ^ 56) q (2 ^ (114 - 2 * p)) t s)
+pub scaled-down : (n k x d p : ℕ) (a b : Bool) → p ≤ 57 → Truncates n a (x * 2 ^ 56) (4 ^ d) → Truncates k b n (2 ^ (114 - 2 * p)) → Truncates k (a || b) (x * 4 ^ (23 + p)) (denominator d)
+unfolding denominator
+scaled-down n k x d p a b P t s =
+    same-fraction k (a || b) (x * 2 ^ 56) (4 ^ d * 2 ^ (114 - 2 * p)) (x * 4 ^ (23 + p)) (4 ^ (52 + d))
+    (four-pos (52 + d))
+    (omega (arith, ap (λ (y : ℕ). x * 4 ^ d * y) (scale p P), ap (λ (y : ℕ). x * y) (pow-add 4 52 d)))
+    (cut-twice n k a b (x * 2 ^ 56) (4 ^ d) (2 ^ (114 - 2 * p)) t s)
 
 -- three cuts, of at most 28 places each, of a number of three limbs
 module _ (w p a b c i j k : ℕ) (x y z : Bool) (W : w < 2 ^ 168) where

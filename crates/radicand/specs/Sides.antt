@@ -4,8 +4,8 @@
 use Prim.Native.Nat.{ℕ, _+_, _-_, _*_, _^_}
 
 -- the denominator of squares that lie d places below, for significands of 53 bits
-unfoldable pub places-below : ℕ → ℕ
-places-below d = 4 ^ (52 + d)
+unfoldable pub denominator : ℕ → ℕ
+denominator d = 4 ^ (52 + d)
 
 -- the sum of two squares
 unfoldable pub two-squares : ℕ → ℕ → ℕ → ℕ → ℕ

@@ -2,6 +2,7 @@
 ghost use mathlib.Core.Path.{_≡_};
 ghost use Prim.Native.Nat.{ℕ, _+_, _-_, _*_, _^_, _<_, _≤_};
 ghost use Rattle.radicand.specs.Limbs.{units};
+ghost use Rattle.radicand.specs.Sides.{denominator};
 ghost use Rattle.radicand.specs.Stands.{Stands, radicand-floor};
 ghost use Rattle.radicand.specs.Truncation.{Truncates};
 use crate::limbs::lower;
@@ -9,16 +10,16 @@ use crate::wide::Truncated;
 use crate::wide::Wide;
 use crate::words::Radicand;
 
-/// Four times the radicand `x / q`, a sum of squares of significands, in the scale of a head of `places`,
-/// for a caller whose number is `x / q` cut to whole units, and who knows that the words hold it.
+/// The words of a number of squares of significands `x / 4^d`, cut to units, in the scale of a head of
+/// `places`, for a caller who knows that the words hold it.
 ///
-/// A square of significands is `4^(places - 29)` of what the words count, so `2^(114 - 2 * places)` units
-/// are one of them.
+/// Four times a radicand is `4^(places - 29)` times its number of squares, so one of it is
+/// `2^(114 - 2 * places)` units.
 pub fn scaled(number: Truncated, places: u32) -> Radicand
     requires least { ⌜ 29 ≤ places ⌝ }
     requires most { ⌜ places ≤ 57 ⌝ }
     requires held { ⌜ units (number .wide) < 2 ^ 130 * 2 ^ (114 - 2 * places) ⌝ }
-    ensures { λ r. ⌜ ((x q : ℕ) → Truncates (units (number .wide)) (number .cut) (x * 2 ^ 56) q → Stands r (x * 4 ^ (23 + places)) (4 ^ 52 * q)) ⌝ }
+    ensures { λ r. ⌜ ((x d : ℕ) → Truncates (units (number .wide)) (number .cut) (x * 2 ^ 56) (4 ^ d) → Stands r (x * 4 ^ (23 + places)) (denominator d)) ⌝ }
 {
     let over = lower(number.wide, 114 - 2 * places);
     worded(over.wide, number.cut | over.cut)

@@ -6,7 +6,8 @@
 //! of one that lies farther, all that is lost is told by one bit.
 ghost use mathlib.Core.Path.{_≡_};
 ghost use Prim.Native.Nat.{_+_, _*_, _^_, _<_, _≤_};
-ghost use Rattle.radicand.specs.Sides.{two-squares, three-squares, leg-square, places-below};
+ghost use Rattle.radicand.specs.Limbs.{units};
+ghost use Rattle.radicand.specs.Sides.{two-squares, three-squares, leg-square, denominator};
 ghost use Rattle.radicand.specs.Stands.{Stands};
 use crate::limbs::far;
 use crate::limbs::lower;
@@ -15,6 +16,7 @@ use crate::limbs::plus;
 use crate::limbs::squared;
 use crate::scale::scaled;
 use crate::wide::Truncated;
+use crate::wide::Wide;
 use crate::words::Radicand;
 
 /// A side that is not the largest.
@@ -33,10 +35,9 @@ pub fn sum_of_two(largest: u64, other: Side, places: u32) -> Radicand
     requires near { ⌜ other .below ≤ 28 ⌝ }
     requires least { ⌜ 30 ≤ places ⌝ }
     requires most { ⌜ places ≤ 31 ⌝ }
-    ensures { λ r. ⌜ Stands r (two-squares largest (other .significand) (other .below) places) (places-below (other .below)) ⌝ }
+    ensures { λ r. ⌜ Stands r (two-squares largest (other .significand) (other .below) places) (denominator (other .below)) ⌝ }
 {
-    let square = lower(squared(other.significand), 2 * other.below);
-    let sum = plus(squared(largest), square.wide);
+    let sum = near_sum(largest, other);
     scaled(Truncated { wide: sum, cut: false }, places)
 }
 
@@ -49,11 +50,10 @@ pub fn difference(hypotenuse: u64, leg: Side, places: u32) -> Radicand
     requires longer { ⌜ leg .significand < hypotenuse * 2 ^ (leg .below) ⌝ }
     requires least { ⌜ 30 ≤ places ⌝ }
     requires most { ⌜ places ≤ 57 ⌝ }
-    requires held { ⌜ leg-square hypotenuse (leg .significand) (leg .below) places < 2 ^ 130 * places-below (leg .below) ⌝ }
-    ensures { λ r. ⌜ Stands r (leg-square hypotenuse (leg .significand) (leg .below) places) (places-below (leg .below)) ⌝ }
+    requires held { ⌜ leg-square hypotenuse (leg .significand) (leg .below) places < 2 ^ 130 * denominator (leg .below) ⌝ }
+    ensures { λ r. ⌜ Stands r (leg-square hypotenuse (leg .significand) (leg .below) places) (denominator (leg .below)) ⌝ }
 {
-    let square = lower(squared(leg.significand), 2 * leg.below);
-    let rest = minus(squared(hypotenuse), square.wide);
+    let rest = minus(squared(hypotenuse), near_square(leg));
     scaled(Truncated { wide: rest, cut: false }, places)
 }
 
@@ -66,10 +66,29 @@ pub fn sum_of_three(largest: u64, other: Side, third: Side, places: u32) -> Radi
     requires near { ⌜ other .below ≤ 28 ⌝ }
     requires least { ⌜ 30 ≤ places ⌝ }
     requires most { ⌜ places ≤ 31 ⌝ }
-    ensures { λ r. ⌜ Stands r (three-squares largest (other .significand) (other .below) (third .significand) (third .below) places) (places-below (other .below + third .below)) ⌝ }
+    ensures { λ r. ⌜ Stands r (three-squares largest (other .significand) (other .below) (third .significand) (third .below) places) (denominator (other .below + third .below)) ⌝ }
 {
-    let square = lower(squared(other.significand), 2 * other.below);
-    let sum = plus(squared(largest), square.wide);
-    let last = far(squared(third.significand), third.below);
-    scaled(Truncated { wide: plus(sum, last.wide), cut: last.cut }, places)
+    let square = far(squared(third.significand), third.below);
+    let sum = plus(near_sum(largest, other), square.wide);
+    scaled(Truncated { wide: sum, cut: square.cut }, places)
+}
+
+// The sum of the squares of the largest side and a near one, which is whole in units.
+fn near_sum(largest: u64, other: Side) -> Wide
+    requires largest { ⌜ largest < 2 ^ 53 ⌝ }
+    requires other { ⌜ other .significand < 2 ^ 53 ⌝ }
+    requires near { ⌜ other .below ≤ 28 ⌝ }
+    ensures value { λ r. ⌜ units r * 4 ^ (other .below) ≡ (largest * largest * 4 ^ (other .below) + other .significand * other .significand) * 2 ^ 56 ⌝ }
+    ensures bound { λ r. ⌜ units r < 2 ^ 163 ⌝ }
+{
+    plus(squared(largest), near_square(other))
+}
+
+// The square of a near side, which is whole in units.
+fn near_square(side: Side) -> Wide
+    requires short { ⌜ side .significand < 2 ^ 53 ⌝ }
+    requires near { ⌜ side .below ≤ 28 ⌝ }
+    ensures { λ r. ⌜ units r * 4 ^ (side .below) ≡ side .significand * side .significand * 2 ^ 56 ⌝ }
+{
+    lower(squared(side.significand), 2 * side.below).wide
 }
