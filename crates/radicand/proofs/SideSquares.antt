@@ -2,7 +2,7 @@
 use mathlib.Core.Path.{_≡_, refl, sym, ap, _∙_, subst}
 use mathlib.Core.Bool.{Bool, false}
 use Prim.Native.Nat.{ℕ, _+_, _-_, _*_, _^_, _≤_, _<_}
-use native.Mathlib.Nat.{mul-le-mul, mul-le-mul-right, lt-of-not-le, le-of-mul-le-mul-right}
+use native.Mathlib.Nat.{mul-pos, mul-le-mul, mul-le-mul-left, mul-le-mul-right, lt-of-not-le, le-of-mul-le-mul-right}
 use native.Mathlib.Omega.{arith}
 use lib.Pow.{pow-add}
 use Rattle.exact.proofs.Squares.{four-two, four-pos, two-le}
@@ -15,17 +15,23 @@ use Rattle.radicand.proofs.Truncations.{with-whole, same-fraction, exact, noth
 pub square-bound : (n : ℕ) → n < 2 ^ 53 → n * n < 2 ^ 106
 square-bound n h = let a : n ≤ 2 ^ 53 - 1 = omega arith in omega (arith, mul-le-mul a a)
 
-pub near-whole : (n d u : ℕ) (cut : Bool) → d ≤ 28 → Truncates u cut (n * n * 2 ^ 56) (2 ^ (2 * d)) → u * 4 ^ d ≡ n * n * 2 ^ 56
-near-whole n d u cut h t =
+-- a near square over 4 ^ d is cut nowhere
+pub near-whole : (n d u v : ℕ) (cut : Bool) → d ≤ 28 → v ≡ n * n * 2 ^ 56 → Truncates u cut v (2 ^ (2 * d)) → u * 4 ^ d ≡ n * n * 2 ^ 56
+near-whole n d u v cut h s t =
     let p : 2 ^ 56 ≡ 2 ^ (56 - 2 * d) * 2 ^ (2 * d) = ap (λ (x : ℕ). 2 ^ x) {x = 56} {y = 56 - 2 * d + 2 * d} (omega arith) ∙ pow-add 2 (56 - 2 * d) (2 * d) in
-    let e : n * n * 2 ^ 56 ≡ n * n * 2 ^ (56 - 2 * d) * 2 ^ (2 * d) = omega (arith, ap (λ (x : ℕ). n * n * x) p) in
-    let i : u ≡ n * n * 2 ^ (56 - 2 * d) = exact u cut _ (2 ^ (2 * d)) (subst (λ (v : ℕ). Truncates u cut v (2 ^ (2 * d))) e t) in
-    ap (λ (x : ℕ). u * x) (four-is d) ∙ ap (λ (x : ℕ). x * 2 ^ (2 * d)) i ∙ sym e
+    let e : v ≡ n * n * 2 ^ (56 - 2 * d) * 2 ^ (2 * d) = omega (arith, s, ap (λ (x : ℕ). n * n * x) p) in
+    let i : u ≡ n * n * 2 ^ (56 - 2 * d) = exact u cut _ (2 ^ (2 * d)) (subst (λ (x : ℕ). Truncates u cut x (2 ^ (2 * d))) e t) in
+    ap (λ (x : ℕ). u * x) (four-is d) ∙ ap (λ (x : ℕ). x * 2 ^ (2 * d)) i ∙ sym e ∙ s
 
--- what is over a power of four is at most so much
+-- what is left over a power of four is no larger
 pub at-most : (u d v : ℕ) → u * 4 ^ d ≡ v → u ≤ v
-at-most u d v e = omega (arith, e, native.Mathlib.Nat.mul-le-mul-left u (four-pos d))
+at-most u d v e = omega (arith, e, mul-le-mul-left u (four-pos d))
 
+-- and so is what a cut leaves
+pub cut-at-most : (t v m : ℕ) (cut : Bool) → Truncates t cut v m → t ≤ v
+cut-at-most t v m cut h = let p : 1 ≤ m = omega (arith, h .short) in omega (arith, h .whole, mul-le-mul-left t p)
+
+-- the words hold any sum of three squares at 31 places
 pub sum-held : (w p : ℕ) → w < 2 ^ 164 → p ≤ 31 → w < 2 ^ 130 * 2 ^ (114 - 2 * p)
 sum-held w p h P = omega (arith, two-le 52 (114 - 2 * p) (omega arith))
 
@@ -42,6 +48,7 @@ module _ (m n d u w : ℕ) (U : u * 4 ^ d ≡ n * n * 2 ^ 56) (L : n < m * 2 ^ d
   pub leg-whole : w + u ≡ m * m * 2 ^ 56 → w * 4 ^ d ≡ (m * m * 4 ^ d - n * n) * 2 ^ 56
   leg-whole e = omega (arith, U, shorter, ap (λ (x : ℕ). x * 4 ^ d) e)
 
+-- where the words hold the difference of squares, the limbs are not too large either
 pub leg-held : (w x d p : ℕ) → p ≤ 57 → w * 4 ^ d ≡ x * 2 ^ 56 → x * 4 ^ (23 + p) < 2 ^ 130 * denominator d → w < 2 ^ 130 * 2 ^ (114 - 2 * p)
 unfolding denominator
 leg-held w x d p P e h =
@@ -50,20 +57,17 @@ leg-held w x d p P e h =
       omega (arith, mul-le-mul-right (4 ^ d * s) g, ap (λ (y : ℕ). y * s) e, ap (λ (y : ℕ). 4 ^ d * y) (scale p P), pow-add 4 52 d, h))
 
 -- a far square added to a whole number of units
-pub with-far : (m n d k e a t : ℕ) (cut : Bool) → a * 4 ^ d ≡ (m * m * 4 ^ d + n * n) * 2 ^ 56 → Truncates t cut (k * k * 2 ^ 56) (4 ^ e) → Truncates (a + t) cut ((m * m * 4 ^ (d + e) + n * n * 4 ^ e + k * k * 4 ^ d) * 2 ^ 56) (4 ^ (d + e))
-with-far m n d k e a t cut A T =
-    let f : 4 ^ (d + e) ≡ 4 ^ d * 4 ^ e = pow-add 4 d e in
-    let D = 4 ^ d in
-    let E = 4 ^ e in
-    let same : (a * E + k * k * 2 ^ 56) * (D * E) ≡ (m * m * (D * E) + n * n * E + k * k * D) * 2 ^ 56 * E = omega (arith, ap (λ (y : ℕ). y * (E * E)) A) in
-    same-fraction (a + t) cut (a * E + k * k * 2 ^ 56) E _ (4 ^ (d + e)) (four-pos (d + e))
-    (ap (λ (y : ℕ). (a * E + k * k * 2 ^ 56) * y) f ∙ same ∙ ap (λ (y : ℕ). (m * m * y + n * n * E + k * k * D) * 2 ^ 56 * E) (sym f))
-    (with-whole a t cut (k * k * 2 ^ 56) E T)
+module _ (m n d k e : ℕ) where
+  abbrev squares : ℕ → ℕ
+  squares f = m * m * f + n * n * 4 ^ e + k * k * 4 ^ d
+
+  pub with-far : (a t v w : ℕ) (cut : Bool) → a * 4 ^ d ≡ (m * m * 4 ^ d + n * n) * 2 ^ 56 → v ≡ k * k * 2 ^ 56 → w ≡ a + t → Truncates t cut v (4 ^ e) → Truncates w cut (squares (4 ^ (d + e)) * 2 ^ 56) (4 ^ (d + e))
+  with-far a t v w cut A V W T =
+      let f : 4 ^ (d + e) ≡ 4 ^ d * 4 ^ e = pow-add 4 d e in
+      let same : (a * 4 ^ e + v) * (4 ^ d * 4 ^ e) ≡ squares (4 ^ d * 4 ^ e) * 2 ^ 56 * 4 ^ e = omega (arith, ap (λ (y : ℕ). y * (4 ^ e * 4 ^ e)) A, ap (λ (y : ℕ). y * (4 ^ d * 4 ^ e)) V) in
+      let far = same-fraction (a + t) cut (a * 4 ^ e + v) (4 ^ e) (squares (4 ^ d * 4 ^ e) * 2 ^ 56) (4 ^ d * 4 ^ e) (mul-pos (four-pos d) (four-pos e)) same (with-whole a t cut v (4 ^ e) T) in
+      subst (λ (x : ℕ). Truncates w cut (squares x * 2 ^ 56) x) (sym f) (subst (λ (x : ℕ). Truncates x cut (squares (4 ^ d * 4 ^ e) * 2 ^ 56) (4 ^ d * 4 ^ e)) (sym W) far)
 
 -- a whole number of units as a fraction
 pub whole-units : (w x d : ℕ) → w * 4 ^ d ≡ x * 2 ^ 56 → Truncates w false (x * 2 ^ 56) (4 ^ d)
 whole-units w x d e = subst (λ (v : ℕ). Truncates w false v (4 ^ d)) e (nothing-cut w (4 ^ d) (four-pos d))
-
--- a cut fraction is at most its numerator
-pub cut-at-most : (t v m : ℕ) (cut : Bool) → Truncates t cut v m → t ≤ v
-cut-at-most t v m cut h = omega (arith, h .whole, h .short, native.Mathlib.Nat.mul-le-mul-left t (let p : 1 ≤ m = omega (arith, h .short) in p))

@@ -1,6 +1,6 @@
 //! Exact radicands in words.
-pub mod limbs;
-pub mod scale;
+mod limbs;
+mod scale;
 pub mod sides;
-pub mod wide;
+mod wide;
 pub mod words;
