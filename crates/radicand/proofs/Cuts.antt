@@ -32,6 +32,6 @@ module _ (w p a b c i j k : ℕ) (x y z : Bool) (W : w < 2 ^ 168) where
       elim (lt-or-le 84 p) [
         | inr h ↦ subst (Truncates k (x || y || z) w) (three-cuts a b c p (near h)) all
         | inl h ↦
-          let l : 4 ^ 84 ≤ 4 ^ p = let g : 84 ≤ p = omega arith in pow-le-pow-right {n = 4} (omega arith) g in
-          below-one k (x || y || z) w (4 ^ 84) (4 ^ p) W l (subst (Truncates k (x || y || z) w) (three-cuts a b c 84 (beyond (omega arith))) all)
+            let l : 4 ^ 84 ≤ 4 ^ p = let g : 84 ≤ p = omega arith in pow-le-pow-right {n = 4} (omega arith) g in
+            below-one k (x || y || z) w (4 ^ 84) (4 ^ p) W l (subst (Truncates k (x || y || z) w) (three-cuts a b c 84 (beyond (omega arith))) all)
       ]

@@ -54,7 +54,7 @@ unfolding denominator
 leg-held w x d p P e h =
     let s = 4 ^ (23 + p) in
     lt-of-not-le (λ (g : 2 ^ 130 * 2 ^ (114 - 2 * p) ≤ w).
-      omega (arith, mul-le-mul-right (4 ^ d * s) g, ap (λ (y : ℕ). y * s) e, ap (λ (y : ℕ). 4 ^ d * y) (scale p P), pow-add 4 52 d, h))
+    omega (arith, mul-le-mul-right (4 ^ d * s) g, ap (λ (y : ℕ). y * s) e, ap (λ (y : ℕ). 4 ^ d * y) (scale p P), pow-add 4 52 d, h))
 
 -- a far square added to a whole number of units
 module _ (m n d k e : ℕ) where

@@ -38,7 +38,13 @@ pub fn sum_of_two(largest: u64, other: Side, places: u32) -> Radicand
     ensures { λ r. ⌜ Stands r (two-squares largest (other .significand) (other .below) places) (denominator (other .below)) ⌝ }
 {
     let sum = near_sum(largest, other);
-    scaled(Truncated { wide: sum, cut: false }, places)
+    scaled(
+        Truncated {
+            wide: sum,
+            cut: false,
+        },
+        places,
+    )
 }
 
 /// The radicand of a leg, for a caller whose hypotenuse is the longer side, both normalised and near, in
@@ -54,7 +60,13 @@ pub fn difference(hypotenuse: u64, leg: Side, places: u32) -> Radicand
     ensures { λ r. ⌜ Stands r (leg-square hypotenuse (leg .significand) (leg .below) places) (denominator (leg .below)) ⌝ }
 {
     let rest = minus(squared(hypotenuse), near_square(leg));
-    scaled(Truncated { wide: rest, cut: false }, places)
+    scaled(
+        Truncated {
+            wide: rest,
+            cut: false,
+        },
+        places,
+    )
 }
 
 /// The radicand of three sides, the third of them as far as it may be, for a caller whose sides are
@@ -70,7 +82,13 @@ pub fn sum_of_three(largest: u64, other: Side, third: Side, places: u32) -> Radi
 {
     let square = far(squared(third.significand), third.below);
     let sum = plus(near_sum(largest, other), square.wide);
-    scaled(Truncated { wide: sum, cut: square.cut }, places)
+    scaled(
+        Truncated {
+            wide: sum,
+            cut: square.cut,
+        },
+        places,
+    )
 }
 
 // The sum of the squares of the largest side and a near one, which is whole in units.
@@ -91,4 +109,60 @@ fn near_square(side: Side) -> Wide
     ensures { λ r. ⌜ units r * 4 ^ (side .below) ≡ side .significand * side .significand * 2 ^ 56 ⌝ }
 {
     lower(squared(side.significand), 2 * side.below).wide
+}
+
+#[cfg(test)]
+mod tests {
+    use super::*;
+    use std::test::*;
+
+    const ONE: u64 = 1 << 52;
+
+    fn side(significand: u64, below: u32) -> Side
+        ensures { λ r. ⌜ (r .significand ≡ significand) × (r .below ≡ below) ⌝ }
+    {
+        Side { significand, below }
+    }
+
+    #[test]
+    fn two_equal_sides() -> Result<(), Fail> {
+        // 2 * 4^53 is the radicand of 1 and 1 at 31 places
+        let radicand = sum_of_two(ONE, side(ONE, 0), 31);
+        check_eq(radicand.hi, 1 << 43)?;
+        check_eq(radicand.lo, 0)?;
+        check_eq(radicand.bits, 0)?;
+        check(!radicand.cut)
+    }
+
+    #[test]
+    fn the_leg_of_five_and_four() -> Result<(), Fail> {
+        // 9 / 16 in the scale of the hypotenuse, so (3 * 2^52)^2 at 32 places
+        let leg = Side {
+            significand: ONE,
+            below: 0,
+        };
+        let radicand = difference(5 << 50, leg, 32);
+        check_eq(radicand.hi, 9 << 40)?;
+        check_eq(radicand.lo, 0)?;
+        check_eq(radicand.bits, 0)?;
+        check(!radicand.cut)
+    }
+
+    #[test]
+    fn a_side_at_the_edge_is_cut() -> Result<(), Fail> {
+        let radicand = sum_of_two(ONE, side(2 * ONE - 1, 28), 31);
+        check_eq(radicand.hi, 1 << 42)?;
+        check_eq(radicand.lo, ONE - 1)?;
+        check_eq(radicand.bits, 0)?;
+        check(radicand.cut)
+    }
+
+    #[test]
+    fn a_far_third_side_is_only_a_cut() -> Result<(), Fail> {
+        let radicand = sum_of_three(ONE, side(ONE, 0), side(ONE, u32::MAX), 31);
+        check_eq(radicand.hi, 1 << 43)?;
+        check_eq(radicand.lo, 0)?;
+        check_eq(radicand.bits, 0)?;
+        check(radicand.cut)
+    }
 }
