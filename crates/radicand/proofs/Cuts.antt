@@ -7,7 +7,7 @@ use native.Mathlib.Nat.{mul-le-mul-right, lt-of-not-le, pow-le-pow-right}
 use native.Mathlib.Omega.{arith}
 use lib.Pow.{pow-add}
 use Rattle.exact.proofs.Squares.{lt-or-le, four-pos}
-use Rattle.radicand.specs.Sides.{denominator}
+use Rattle.radicand.specs.Sides.{head-scaled, denominator}
 use Rattle.radicand.specs.Truncation.{Truncates}
 use Rattle.radicand.proofs.Scales.{scale, three-cuts}
 use Rattle.radicand.proofs.Truncations.{cut-twice, same-fraction, below-one}
@@ -16,8 +16,8 @@ pub quotient-below : (n b v m : ℕ) (cut : Bool) → v < b * m → Truncates n 
 quotient-below n b v m cut h t = lt-of-not-le (λ (g : b ≤ n). omega (arith, t .whole, mul-le-mul-right m g))
 
 -- the units of a number, cut once more to what the words count
-pub scaled-down : (n k x d p : ℕ) (a b : Bool) → p ≤ 57 → Truncates n a (x * 2 ^ 56) (4 ^ d) → Truncates k b n (2 ^ (114 - 2 * p)) → Truncates k (a || b) (x * 4 ^ (23 + p)) (denominator d)
-unfolding denominator
+pub scaled-down : (n k x d p : ℕ) (a b : Bool) → p ≤ 57 → Truncates n a (x * 2 ^ 56) (4 ^ d) → Truncates k b n (2 ^ (114 - 2 * p)) → Truncates k (a || b) (head-scaled x p) (denominator d)
+unfolding head-scaled denominator
 scaled-down n k x d p a b P t s =
     same-fraction k (a || b) (x * 2 ^ 56) (4 ^ d * 2 ^ (114 - 2 * p)) (x * 4 ^ (23 + p)) (4 ^ (52 + d))
     (four-pos (52 + d))

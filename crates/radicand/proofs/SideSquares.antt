@@ -7,7 +7,7 @@ use native.Mathlib.Omega.{arith}
 use lib.Pow.{pow-add}
 use Rattle.exact.proofs.Squares.{four-two, four-pos, two-le}
 use Rattle.exact.proofs.Ulps.{four-is}
-use Rattle.radicand.specs.Sides.{denominator}
+use Rattle.radicand.specs.Sides.{head-scaled, denominator}
 use Rattle.radicand.specs.Truncation.{Truncates}
 use Rattle.radicand.proofs.Scales.{scale}
 use Rattle.radicand.proofs.Truncations.{with-whole, same-fraction, exact, nothing-cut}
@@ -49,8 +49,8 @@ module _ (m n d u w : ℕ) (U : u * 4 ^ d ≡ n * n * 2 ^ 56) (L : n < m * 2 ^ d
   leg-whole e = omega (arith, U, shorter, ap (λ (x : ℕ). x * 4 ^ d) e)
 
 -- where the words hold the difference of squares, the limbs are not too large either
-pub leg-held : (w x d p : ℕ) → p ≤ 57 → w * 4 ^ d ≡ x * 2 ^ 56 → x * 4 ^ (23 + p) < 2 ^ 130 * denominator d → w < 2 ^ 130 * 2 ^ (114 - 2 * p)
-unfolding denominator
+pub leg-held : (w x d p : ℕ) → p ≤ 57 → w * 4 ^ d ≡ x * 2 ^ 56 → head-scaled x p < 2 ^ 130 * denominator d → w < 2 ^ 130 * 2 ^ (114 - 2 * p)
+unfolding head-scaled denominator
 leg-held w x d p P e h =
     let s = 4 ^ (23 + p) in
     lt-of-not-le (λ (g : 2 ^ 130 * 2 ^ (114 - 2 * p) ≤ w).

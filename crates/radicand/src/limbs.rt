@@ -3,7 +3,9 @@
 //!
 //! A limb is two parts of 28 bits, so a product of parts, and any sum of a few of them, fits one word.
 ghost use mathlib.Core.Path.{_≡_};
-ghost use Prim.Native.Nat.{_+_, _*_, _^_, _<_, _≤_};
+ghost use mathlib.Core.Bool.{not};
+ghost use Prim.Native.Nat.{_+_, _*_, _%_, _^_, _<_, _≤_};
+ghost use lib.Dec.{eqb};
 ghost use Rattle.radicand.specs.Limbs.{units};
 ghost use Rattle.radicand.specs.Truncation.{Truncates};
 use crate::wide::Truncated;
@@ -74,8 +76,16 @@ pub fn lower(wide: Wide, by: u32) -> Truncated
     };
     Truncated {
         wide: over,
-        cut: wide.part % below != 0,
+        cut: has_rest(wide.part, below),
     }
+}
+
+// Whether `below` does not divide the limb.
+fn has_rest(limb: u64, below: u64) -> bool
+    requires { ⌜ 0 < below ⌝ }
+    ensures { λ r. ⌜ r ≡ not (eqb (limb % below) 0) ⌝ }
+{
+    limb % below != 0
 }
 
 /// The number over `4^places`, cut to whole units, for any `places`: beyond 84 no unit is left.

@@ -5,9 +5,9 @@
 //! of `significand^2 / 4^below`. Squares that lie at most 28 places below are whole in units of `2^-56`;
 //! of one that lies farther, all that is lost is told by one bit.
 ghost use mathlib.Core.Path.{_≡_};
-ghost use Prim.Native.Nat.{_+_, _*_, _^_, _<_, _≤_};
-ghost use Rattle.radicand.specs.Limbs.{units};
-ghost use Rattle.radicand.specs.Sides.{two-squares, three-squares, leg-square, denominator};
+ghost use Prim.Native.Nat.{ℕ, _+_, _*_, _^_, _<_, _≤_};
+ghost use Rattle.radicand.specs.Limbs.{units, Counts, Held};
+ghost use Rattle.radicand.specs.Sides.{two-squares, three-squares, leg-square, head-scaled, denominator};
 ghost use Rattle.radicand.specs.Stands.{Stands};
 use crate::limbs::far;
 use crate::limbs::lower;
@@ -27,50 +27,21 @@ pub struct Side {
     pub below: u32,
 }
 
-/// The radicand of two sides, for a caller whose sides are normalised and near, in the scale of a head
-/// of 30 or 31 places.
+/// The radicand of two sides, for a caller whose sides are near, in the scale of a head of 30 or 31
+/// places.
 pub fn sum_of_two(largest: u64, other: Side, places: u32) -> Radicand
     requires largest { ⌜ largest < 2 ^ 53 ⌝ }
     requires other { ⌜ other .significand < 2 ^ 53 ⌝ }
     requires near { ⌜ other .below ≤ 28 ⌝ }
     requires least { ⌜ 30 ≤ places ⌝ }
     requires most { ⌜ places ≤ 31 ⌝ }
-    ensures { λ r. ⌜ Stands r (two-squares largest (other .significand) (other .below) places) (denominator (other .below)) ⌝ }
+    ensures { λ r. ⌜ Stands r (head-scaled (two-squares largest (other .significand) (other .below)) places) (denominator (other .below)) ⌝ }
 {
-    let sum = near_sum(largest, other);
-    scaled(
-        Truncated {
-            wide: sum,
-            cut: false,
-        },
-        places,
-    )
+    scaled(two_squares(largest, other), places)
 }
 
-/// The radicand of a leg, for a caller whose hypotenuse is the longer side, both normalised and near, in
-/// the scale of a head of at most 57 places whose words hold it.
-pub fn difference(hypotenuse: u64, leg: Side, places: u32) -> Radicand
-    requires hypotenuse { ⌜ hypotenuse < 2 ^ 53 ⌝ }
-    requires leg { ⌜ leg .significand < 2 ^ 53 ⌝ }
-    requires near { ⌜ leg .below ≤ 28 ⌝ }
-    requires longer { ⌜ leg .significand < hypotenuse * 2 ^ (leg .below) ⌝ }
-    requires least { ⌜ 30 ≤ places ⌝ }
-    requires most { ⌜ places ≤ 57 ⌝ }
-    requires held { ⌜ leg-square hypotenuse (leg .significand) (leg .below) places < 2 ^ 130 * denominator (leg .below) ⌝ }
-    ensures { λ r. ⌜ Stands r (leg-square hypotenuse (leg .significand) (leg .below) places) (denominator (leg .below)) ⌝ }
-{
-    let rest = minus(squared(hypotenuse), near_square(leg));
-    scaled(
-        Truncated {
-            wide: rest,
-            cut: false,
-        },
-        places,
-    )
-}
-
-/// The radicand of three sides, the third of them as far as it may be, for a caller whose sides are
-/// normalised and the first two near, in the scale of a head of 30 or 31 places.
+/// The radicand of three sides, the third of them as far as it may be, for a caller whose first two are
+/// near, in the scale of a head of 30 or 31 places.
 pub fn sum_of_three(largest: u64, other: Side, third: Side, places: u32) -> Radicand
     requires largest { ⌜ largest < 2 ^ 53 ⌝ }
     requires other { ⌜ other .significand < 2 ^ 53 ⌝ }
@@ -78,25 +49,77 @@ pub fn sum_of_three(largest: u64, other: Side, third: Side, places: u32) -> Radi
     requires near { ⌜ other .below ≤ 28 ⌝ }
     requires least { ⌜ 30 ≤ places ⌝ }
     requires most { ⌜ places ≤ 31 ⌝ }
-    ensures { λ r. ⌜ Stands r (three-squares largest (other .significand) (other .below) (third .significand) (third .below) places) (denominator (other .below + third .below)) ⌝ }
+    ensures { λ r. ⌜ Stands r (head-scaled (three-squares largest (other .significand) (other .below) (third .significand) (third .below)) places) (denominator (other .below + third .below)) ⌝ }
 {
-    let square = far(squared(third.significand), third.below);
-    let sum = plus(near_sum(largest, other), square.wide);
-    scaled(
-        Truncated {
-            wide: sum,
-            cut: square.cut,
-        },
-        places,
-    )
+    scaled(three_squares(largest, other, third), places)
 }
 
-// The sum of the squares of the largest side and a near one, which is whole in units.
+/// The radicand of the other leg, for a caller whose hypotenuse is longer than the leg and near it, in
+/// the scale of a head of 30 to 57 places at which the words hold it.
+pub fn difference(hypotenuse: u64, leg: Side, places: u32) -> Radicand
+    requires hypotenuse { ⌜ hypotenuse < 2 ^ 53 ⌝ }
+    requires leg { ⌜ leg .significand < 2 ^ 53 ⌝ }
+    requires near { ⌜ leg .below ≤ 28 ⌝ }
+    requires longer { ⌜ leg .significand < hypotenuse * 2 ^ (leg .below) ⌝ }
+    requires least { ⌜ 30 ≤ places ⌝ }
+    requires most { ⌜ places ≤ 57 ⌝ }
+    requires held { ⌜ head-scaled (leg-square hypotenuse (leg .significand) (leg .below)) places < 2 ^ 130 * denominator (leg .below) ⌝ }
+    ensures { λ r. ⌜ Stands r (head-scaled (leg-square hypotenuse (leg .significand) (leg .below)) places) (denominator (leg .below)) ⌝ }
+{
+    scaled(leg_square(hypotenuse, leg), places)
+}
+
+// The sum of the squares of the largest side and a near one.
+fn two_squares(largest: u64, other: Side) -> Truncated
+    requires largest { ⌜ largest < 2 ^ 53 ⌝ }
+    requires other { ⌜ other .significand < 2 ^ 53 ⌝ }
+    requires near { ⌜ other .below ≤ 28 ⌝ }
+    ensures value { λ r. ⌜ Counts r (two-squares largest (other .significand) (other .below)) (other .below) ⌝ }
+    ensures held { λ r. ⌜ ((places : ℕ) → places ≤ 31 → Held r places) ⌝ }
+{
+    Truncated {
+        wide: near_sum(largest, other),
+        cut: false,
+    }
+}
+
+// The sum of the squares of the largest side, a near one, and a third, the only one that can be cut.
+fn three_squares(largest: u64, other: Side, third: Side) -> Truncated
+    requires largest { ⌜ largest < 2 ^ 53 ⌝ }
+    requires other { ⌜ other .significand < 2 ^ 53 ⌝ }
+    requires third { ⌜ third .significand < 2 ^ 53 ⌝ }
+    requires near { ⌜ other .below ≤ 28 ⌝ }
+    ensures value { λ r. ⌜ Counts r (three-squares largest (other .significand) (other .below) (third .significand) (third .below)) (other .below + third .below) ⌝ }
+    ensures held { λ r. ⌜ ((places : ℕ) → places ≤ 31 → Held r places) ⌝ }
+{
+    let square = far(squared(third.significand), third.below);
+    Truncated {
+        wide: plus(near_sum(largest, other), square.wide),
+        cut: square.cut,
+    }
+}
+
+// The square of the hypotenuse less that of a near leg.
+fn leg_square(hypotenuse: u64, leg: Side) -> Truncated
+    requires hypotenuse { ⌜ hypotenuse < 2 ^ 53 ⌝ }
+    requires leg { ⌜ leg .significand < 2 ^ 53 ⌝ }
+    requires near { ⌜ leg .below ≤ 28 ⌝ }
+    requires longer { ⌜ leg .significand < hypotenuse * 2 ^ (leg .below) ⌝ }
+    ensures value { λ r. ⌜ Counts r (leg-square hypotenuse (leg .significand) (leg .below)) (leg .below) ⌝ }
+    ensures held { λ r. ⌜ ((places : ℕ) → places ≤ 57 → head-scaled (leg-square hypotenuse (leg .significand) (leg .below)) places < 2 ^ 130 * denominator (leg .below) → Held r places) ⌝ }
+{
+    Truncated {
+        wide: minus(squared(hypotenuse), near_square(leg)),
+        cut: false,
+    }
+}
+
+// The sum of two squares, which is whole in units.
 fn near_sum(largest: u64, other: Side) -> Wide
     requires largest { ⌜ largest < 2 ^ 53 ⌝ }
     requires other { ⌜ other .significand < 2 ^ 53 ⌝ }
     requires near { ⌜ other .below ≤ 28 ⌝ }
-    ensures value { λ r. ⌜ units r * 4 ^ (other .below) ≡ (largest * largest * 4 ^ (other .below) + other .significand * other .significand) * 2 ^ 56 ⌝ }
+    ensures value { λ r. ⌜ units r * 4 ^ (other .below) ≡ two-squares largest (other .significand) (other .below) * 2 ^ 56 ⌝ }
     ensures bound { λ r. ⌜ units r < 2 ^ 163 ⌝ }
 {
     plus(squared(largest), near_square(other))

@@ -1,5 +1,5 @@
 use Prim.Native.Nat.{_*_, _^_, _<_, _%_}
-use mathlib.Core.Path.{_≡_, sym, subst}
+use mathlib.Core.Path.{sym, _∙_}
 use native.Mathlib.Nat.{div-le-self}
 use native.Mathlib.Omega.{arith}
 use borrow.Author.Tests.{eqb-true, eqb-false, not-true, not-false}
@@ -31,6 +31,6 @@ returns c = let w = c .args .wide in record {
   rest = _;
   whole = over (c .args .by) (c .pre) (w .high) (w .low) (w .part);
   short = omega (arith, D-is (c .args .by) (c .pre), mod-below (w .part) _ (D-pos (c .args .by) (c .pre)));
-  is-cut = λ h z. eqb-false _ 0 (not-true _ h) z;
-  not-cut = λ h. eqb-true _ 0 (not-false _ h);
+  is-cut = λ h z. eqb-false _ 0 (not-true _ (sym (c .has-rest .ensures) ∙ h)) z;
+  not-cut = λ h. eqb-true _ 0 (not-false _ (sym (c .has-rest .ensures) ∙ h));
 }
