@@ -1,5 +1,5 @@
 -- Numbers in limbs after several cuts: a far side, and a number in the scale of a head.
-use mathlib.Core.Path.{_≡_, refl, sym, ap, _∙_, subst}
+use mathlib.Core.Path.{_≡_, ap, subst}
 use mathlib.Core.Bool.{Bool, _||_}
 use mathlib.Core.Logic.{_⊎_, inl, inr}
 use Prim.Native.Nat.{ℕ, _+_, _-_, _*_, _^_, _≤_, _<_}
@@ -12,6 +12,7 @@ use Rattle.radicand.specs.Truncation.{Truncates}
 use Rattle.radicand.proofs.Scales.{scale, three-cuts}
 use Rattle.radicand.proofs.Truncations.{cut-twice, same-fraction, below-one}
 
+-- the whole part of what is below b is below b
 pub quotient-below : (n b v m : ℕ) (cut : Bool) → v < b * m → Truncates n cut v m → n < b
 quotient-below n b v m cut h t = lt-of-not-le (λ (g : b ≤ n). omega (arith, t .whole, mul-le-mul-right m g))
 

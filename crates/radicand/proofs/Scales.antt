@@ -12,7 +12,7 @@ scale p P =
     ∙ sym (pow-add 2 (2 * (23 + p)) (114 - 2 * p))
     ∙ ap (λ (x : ℕ). 2 ^ x) {x = 2 * (23 + p) + (114 - 2 * p)} {y = 160} (omega arith)
 
--- three cuts of at most 28 places each
+-- three cuts, of a, b and c places
 pub three-cuts : (a b c p : ℕ) → a + b + c ≡ p → 2 ^ (2 * a) * 2 ^ (2 * b) * 2 ^ (2 * c) ≡ 4 ^ p
 three-cuts a b c p e =
     ap (λ (x : ℕ). x * 2 ^ (2 * c)) (sym (pow-add 2 (2 * a) (2 * b)))

@@ -1,5 +1,5 @@
 -- The squares of the sides in units of 2 ^ -56: a near one is whole, and a far one the only one that is cut.
-use mathlib.Core.Path.{_≡_, refl, sym, ap, _∙_, subst}
+use mathlib.Core.Path.{_≡_, sym, ap, _∙_, subst}
 use mathlib.Core.Bool.{Bool, false}
 use Prim.Native.Nat.{ℕ, _+_, _-_, _*_, _^_, _≤_, _<_}
 use native.Mathlib.Nat.{mul-pos, mul-le-mul, mul-le-mul-left, mul-le-mul-right, lt-of-not-le, le-of-mul-le-mul-right}
@@ -15,7 +15,7 @@ use Rattle.radicand.proofs.Truncations.{with-whole, same-fraction, exact, noth
 pub square-bound : (n : ℕ) → n < 2 ^ 53 → n * n < 2 ^ 106
 square-bound n h = let a : n ≤ 2 ^ 53 - 1 = omega arith in omega (arith, mul-le-mul a a)
 
--- a near square over 4 ^ d is cut nowhere
+-- a near square over 4 ^ d is not cut
 pub near-whole : (n d u v : ℕ) (cut : Bool) → d ≤ 28 → v ≡ n * n * 2 ^ 56 → Truncates u cut v (2 ^ (2 * d)) → u * 4 ^ d ≡ n * n * 2 ^ 56
 near-whole n d u v cut h s t =
     let p : 2 ^ 56 ≡ 2 ^ (56 - 2 * d) * 2 ^ (2 * d) = ap (λ (x : ℕ). 2 ^ x) {x = 56} {y = 56 - 2 * d + 2 * d} (omega arith) ∙ pow-add 2 (56 - 2 * d) (2 * d) in
@@ -35,7 +35,7 @@ cut-at-most t v m cut h = let p : 1 ≤ m = omega (arith, h .short) in omega (ar
 pub sum-held : (w p : ℕ) → w < 2 ^ 164 → p ≤ 31 → w < 2 ^ 130 * 2 ^ (114 - 2 * p)
 sum-held w p h P = omega (arith, two-le 52 (114 - 2 * p) (omega arith))
 
--- the difference of squares
+-- the difference of squares: u is the square of the leg in units, and w what it leaves
 module _ (m n d u w : ℕ) (U : u * 4 ^ d ≡ n * n * 2 ^ 56) (L : n < m * 2 ^ d) where
   shorter : n * n ≤ m * m * 4 ^ d
   shorter =

@@ -1,14 +1,13 @@
 -- Whole parts of fractions: what a cut keeps under a sum, a second cut, and another form of the fraction.
-use mathlib.Core.Path.{_≡_, refl, sym, ap, _∙_, subst}
-use mathlib.Core.Bool.{Bool, true, false, _||_}
+use mathlib.Core.Path.{_≡_, refl, sym, ap, _∙_}
+use mathlib.Core.Bool.{Bool, false, _||_}
 use mathlib.Core.Logic.{_⊎_, inl, inr}
-use Prim.Native.Nat.{ℕ, zero, suc, _+_, _-_, _*_, _/_, _%_, _^_, _≤_, _<_}
-use native.Mathlib.Nat.{mul-le-mul-right, mul-pos, le-of-mul-le-mul-right, lt-of-not-le, eq-of-mul-eq-mul-right, eq-zero-or-pos}
+use Prim.Native.Nat.{ℕ, zero, suc, _+_, _-_, _*_, _/_, _%_, _≤_, _<_}
+use native.Mathlib.Nat.{mul-le-mul-right, le-of-mul-le-mul-right, lt-of-not-le, eq-of-mul-eq-mul-right, mul-div-cancel}
 use native.Mathlib.Omega.{arith}
 use borrow.Author.Tests.{clash}
 use Rattle.std.proofs.shelf.Bits.{div-mul-add, mod-mul-add}
 use Rattle.std.proofs.shelf.Tests.{or-cases, or-parts}
-use Rattle.exact.proofs.Squares.{lt-or-le}
 use Rattle.radicand.specs.declared.words.Radicand.{Radicand}
 use Rattle.radicand.specs.Stands.{Stands, radicand-floor}
 use Rattle.radicand.specs.Truncation.{Truncates}
@@ -23,10 +22,11 @@ with-whole a n cut v m t = record {
   not-cut = t .not-cut;
 }
 
+-- a product is zero only where a factor is
 positive-product : (a b : ℕ) → 0 < b → a * b ≡ 0 → a ≡ 0
 positive-product a b h e = eq-of-mul-eq-mul-right b h a 0 (omega arith)
 
--- a second cut, by q
+-- a second cut, by q: the rest is what either cut left, so it is zero where both left nothing
 pub cut-twice : (n k : ℕ) (c d : Bool) (v m q : ℕ) → Truncates n c v m → Truncates k d n q → Truncates k (c || d) v (m * q)
 cut-twice n k c d v m q t s = record {
   rest = s .rest * m + t .rest;
@@ -55,11 +55,11 @@ same-fraction n cut v m w k K e t =
       not-cut = λ h. positive-product (w - n * k) m M (omega (arith, r, ap (λ (x : ℕ). x * k) (t .not-cut h)));
     }
 
--- a multiple of the denominator is not cut
+-- a multiple of the denominator is its own whole part
 pub exact : (n : ℕ) (cut : Bool) (j m : ℕ) → Truncates n cut (j * m) m → n ≡ j
 exact n cut j m t =
     let M : 0 < m = omega (arith, t .short) in
-    sym (div-mul-add n m (t .rest) (t .short)) ∙ ap (λ (x : ℕ). x / m) (sym (t .whole)) ∙ native.Mathlib.Nat.mul-div-cancel j M
+    sym (div-mul-add n m (t .rest) (t .short)) ∙ ap (λ (x : ℕ). x / m) (sym (t .whole)) ∙ mul-div-cancel j M
 
 -- a whole number as a fraction
 pub nothing-cut : (n m : ℕ) → 0 < m → Truncates n false (n * m) m

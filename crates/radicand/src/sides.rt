@@ -1,7 +1,7 @@
 //! The radicand of a call, from its sides.
 //!
-//! A side is given by a significand of 53 bits, and by how many binary places its leading bit lies below
-//! that of the largest side. In the scale of the largest side a radicand is then a sum, or a difference,
+//! A side is a significand of 53 bits, and by how many binary places its leading bit lies below that of
+//! the largest side. In the scale of the largest side a radicand is then a sum, or a difference,
 //! of `significand^2 / 4^below`. Squares that lie at most 28 places below are whole in units of `2^-56`;
 //! of one that lies farther, all that is lost is told by one bit.
 ghost use mathlib.Core.Path.{_≡_};
@@ -19,7 +19,7 @@ use crate::wide::Truncated;
 use crate::wide::Wide;
 use crate::words::Radicand;
 
-/// A side that is not the largest.
+/// A side that is not the largest. Near is one that lies at most 28 places below.
 #[derive(Clone, Copy)]
 pub struct Side {
     pub significand: u64,
