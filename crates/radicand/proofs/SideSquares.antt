@@ -61,12 +61,13 @@ module _ (m n d k e : ℕ) where
   abbrev squares : ℕ → ℕ
   squares f = m * m * f + n * n * 4 ^ e + k * k * 4 ^ d
 
-  pub with-far : (a t v w : ℕ) (cut : Bool) → a * 4 ^ d ≡ (m * m * 4 ^ d + n * n) * 2 ^ 56 → v ≡ k * k * 2 ^ 56 → w ≡ a + t → Truncates t cut v (4 ^ e) → Truncates w cut (squares (4 ^ (d + e)) * 2 ^ 56) (4 ^ (d + e))
-  with-far a t v w cut A V W T =
+  pub with-far : (a t v w : ℕ) (cut same-cut : Bool) → a * 4 ^ d ≡ (m * m * 4 ^ d + n * n) * 2 ^ 56 → v ≡ k * k * 2 ^ 56 → w ≡ a + t → same-cut ≡ cut → Truncates t cut v (4 ^ e) → Truncates w same-cut (squares (4 ^ (d + e)) * 2 ^ 56) (4 ^ (d + e))
+  with-far a t v w cut same-cut A V W C T =
       let f : 4 ^ (d + e) ≡ 4 ^ d * 4 ^ e = pow-add 4 d e in
       let same : (a * 4 ^ e + v) * (4 ^ d * 4 ^ e) ≡ squares (4 ^ d * 4 ^ e) * 2 ^ 56 * 4 ^ e = omega (arith, ap (λ (y : ℕ). y * (4 ^ e * 4 ^ e)) A, ap (λ (y : ℕ). y * (4 ^ d * 4 ^ e)) V) in
       let far = same-fraction (a + t) cut (a * 4 ^ e + v) (4 ^ e) (squares (4 ^ d * 4 ^ e) * 2 ^ 56) (4 ^ d * 4 ^ e) (mul-pos (four-pos d) (four-pos e)) same (with-whole a t cut v (4 ^ e) T) in
-      subst (λ (x : ℕ). Truncates w cut (squares x * 2 ^ 56) x) (sym f) (subst (λ (x : ℕ). Truncates x cut (squares (4 ^ d * 4 ^ e) * 2 ^ 56) (4 ^ d * 4 ^ e)) (sym W) far)
+      let P : ℕ → Bool → ℕ → Type 0 = λ x b y. Truncates x b (squares y * 2 ^ 56) y in
+      subst (P w same-cut) (sym f) (subst (λ (b : Bool). P w b (4 ^ d * 4 ^ e)) (sym C) (subst (λ (x : ℕ). P x cut (4 ^ d * 4 ^ e)) (sym W) far))
 
 -- a whole number of units as a fraction
 pub whole-units : (w x d : ℕ) → w * 4 ^ d ≡ x * 2 ^ 56 → Truncates w false (x * 2 ^ 56) (4 ^ d)

@@ -47,6 +47,18 @@ pub fn plus(a: Wide, b: Wide) -> Wide
     }
 }
 
+/// The sum of a whole number of units and one that may be cut: cut where that one is.
+pub fn plus_cut(whole: Wide, number: Truncated) -> Truncated
+    requires { ⌜ units whole + units (number .wide) < 2 ^ 168 ⌝ }
+    ensures sum { λ r. ⌜ units (r .wide) ≡ units whole + units (number .wide) ⌝ }
+    ensures cut { λ r. ⌜ r .cut ≡ number .cut ⌝ }
+{
+    Truncated {
+        wide: plus(whole, number.wide),
+        cut: number.cut,
+    }
+}
+
 /// The difference, with its borrows, for a caller who knows that `b` is not the larger.
 pub fn minus(a: Wide, b: Wide) -> Wide
     requires { ⌜ units b ≤ units a ⌝ }

@@ -13,6 +13,7 @@ use crate::limbs::far;
 use crate::limbs::lower;
 use crate::limbs::minus;
 use crate::limbs::plus;
+use crate::limbs::plus_cut;
 use crate::limbs::squared;
 use crate::scale::scaled;
 use crate::wide::Truncated;
@@ -93,10 +94,7 @@ fn three_squares(largest: u64, other: Side, third: Side) -> Truncated
     ensures held { λ r. ⌜ ((places : ℕ) → places ≤ 31 → Held r places) ⌝ }
 {
     let square = far(squared(third.significand), third.below);
-    Truncated {
-        wide: plus(near_sum(largest, other), square.wide),
-        cut: square.cut,
-    }
+    plus_cut(near_sum(largest, other), square)
 }
 
 // The square of the hypotenuse less that of a near leg.
