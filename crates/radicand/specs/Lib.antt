@@ -1,1 +1,4 @@
 pub mod Stands
+pub mod Limbs
+pub mod Truncation
+pub mod Sides
