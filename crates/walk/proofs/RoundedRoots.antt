@@ -105,7 +105,7 @@ module _ (p : ℕ) (one : 1 ≤ p) (short : p ≤ 53) where
 
   length-by : (n e k : ℕ) (b : Bool) → Ulp p n e → Nearest-whole n e k → eqb k (1 * 2 ^ p % 2 ^ 64) ≡ b
       → Length p n (cond b (1 * 2 ^ p % 2 ^ 64 / 2) k) (after-carry b e)
-  length-by n e k true u h q = subst (λ (x : ℕ). Length p n x (e + 1)) (sym half-limit) (carried u (subst (Nearest-whole n e) (eqb-true k _ q ∙ limit-is) h))
+  length-by n e k true u h q = subst (λ (x : ℕ). Length p n x (e + 1)) (sym half-limit) (carried one u (subst (Nearest-whole n e) (eqb-true k _ q ∙ limit-is) h))
   length-by n e k false u h q =
       let d : k ≡ 2 ^ p → ⊥ = λ s. eqb-false k _ q (s ∙ sym limit-is) in
       kept u h (omega (arith, significand-most p n e u k h))
