@@ -34,7 +34,7 @@ pub record Held (w : ℕ) (hi lo : Float) : Type 0 where
   pub lo-finite : T (finite lo)
   pub exact : units hi +ℤ units lo ≡ pos (w * unit)
 
--- a first guess at the root of w: a third of w / 2 ^ 31 + 2 ^ 32, which is the root itself at 2 ^ 62 and 2 ^ 64
+-- a first guess at the root of w: a third of the sum of w / 2 ^ 31 and 2 ^ 32, cut to a whole number; at 2 ^ 62 and 2 ^ 64 it would be the root itself
 abbrev pub first-guess : ℕ → Float
 first-guess w = ofInt binary64 (pos ((w / 2 ^ 31 + 2 ^ 32) / 3))
 

@@ -1,8 +1,8 @@
 //! The root source that divides floats.
 //!
 //! A line gives a first guess, and Newton steps square the relative error: that of the guess's
-//! square falls from 1/8 to 1/120, 2^-14 and 2^-28, and then to 24 of 2^54, where the roundings of
-//! the last step are what is left. So the root of 54 bits is off by at most 15.
+//! square is at most 1/8, then 1/120, 2^-14, 2^-28 and 24/2^54, where the roundings of the last step
+//! are what is left. So the root of 54 bits is off by at most 15.
 ghost use mathlib.Core.Path.{_≡_};
 ghost use Prim.Native.Nat.{_^_, _≤_};
 ghost use Rattle.float_source.specs.FloatProposal.{
@@ -86,7 +86,7 @@ fn lower_half(word: u64) -> f64
     (word % 0x1_0000_0000) as f64
 }
 
-// A guess within a sixteenth of the root: a line in the word.
+// A guess whose square is within an eighth of the word: a line in the word.
 fn guess(word: u64) -> f64
     ensures { λ r. ⌜ r ≡ first-guess word ⌝ }
 {

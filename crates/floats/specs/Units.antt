@@ -17,7 +17,7 @@ most = 2 ^ 2074
 abbrev pub signed : Bool → ℕ → ℤ
 signed negative n = cond negative (negℤ (pos n)) (pos n)
 
--- how many units a finite float is
+-- how many units a finite float is; the division is exact for every binary64 number
 unfoldable pub units : Float → ℤ
 units nan = pos 0
 units (inf s) = pos 0

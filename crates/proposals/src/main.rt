@@ -1,4 +1,6 @@
 //! Prints what each root source proposes for the words on its command line, in hexadecimal digits.
+use constant_source::ConstantRootSource;
+use constant_source::ConstantSource;
 use float_source::FloatRootSource;
 use float_source::FloatSource;
 use sources::digit::DigitRootSource;
@@ -14,15 +16,22 @@ use std::error::AnyError;
 // A source's grade, its proposal for the word, and how far that lies from the root.
 fn print_proposal<S: RootSource>(rt: &LibcRuntime, source: &S, word: u64) -> Result<(), AnyError> {
     let grade = source.grade();
-    match (source.propose(word), DigitSource.propose(word)) {
-        (Some(proposal), Some(root)) => {
+    let Some(proposal) = source.propose(word) else {
+        println!(rt, "grade {grade}, no proposal")?;
+        return Ok(());
+    };
+    match DigitSource.propose(word) {
+        Some(root) => {
             let distance = proposal.abs_diff(root);
             println!(
                 rt,
                 "grade {grade}, {proposal:014x}, {distance} from the root"
             )?;
         }
-        _ => println!(rt, "grade {grade}, no proposal")?,
+        None => println!(
+            rt,
+            "grade {grade}, {proposal:014x}, but the word has no root"
+        )?,
     }
     Ok(())
 }
@@ -44,6 +53,18 @@ fn print_refined<S: RootSource + Drop>(
     }
 }
 
+// The same of a table source with one step, and two steps over that.
+fn print_nested(rt: &LibcRuntime, word: u64) -> Result<(), AnyError> {
+    match Refiner::new(TableSource, 1) {
+        Ok(refiner) => print_refined(rt, refiner, 2, word),
+        Err(refusal) => {
+            let number = refusal.number();
+            println!(rt, "refused with {number}")?;
+            Ok(())
+        }
+    }
+}
+
 // What the sources, and refiners over them, propose for one word.
 fn print_proposals(rt: &LibcRuntime, word: u64) -> Result<(), AnyError> {
     println!(rt, "word {word:016x}")?;
@@ -55,10 +76,16 @@ fn print_proposals(rt: &LibcRuntime, word: u64) -> Result<(), AnyError> {
         print!(rt, "  table, steps {steps}: ")?;
         print_refined(rt, TableSource, steps, word)?;
     }
+    print!(rt, "  table, steps 1, then 2: ")?;
+    print_nested(rt, word)?;
     print!(rt, "  floats: ")?;
     print_proposal(rt, &FloatSource, word)?;
     print!(rt, "  floats, steps 1: ")?;
-    print_refined(rt, FloatSource, 1, word)
+    print_refined(rt, FloatSource, 1, word)?;
+    print!(rt, "  constant: ")?;
+    print_proposal(rt, &ConstantSource, word)?;
+    print!(rt, "  constant, steps 4: ")?;
+    print_refined(rt, ConstantSource, 4, word)
 }
 
 fn run(rt: &LibcRuntime) -> Result<(), AnyError> {

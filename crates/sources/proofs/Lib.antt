@@ -4,3 +4,4 @@ pub mod Tables
 pub mod TableReach
 pub mod Refining
 pub mod Proposals
+pub mod Worked

@@ -2,3 +2,4 @@ pub mod Source
 pub mod Table
 pub mod Refined
 pub mod Refiner
+pub mod Examples

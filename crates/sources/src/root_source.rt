@@ -3,7 +3,7 @@ ghost use mathlib.Core.Path.{_≡_};
 ghost use Rattle.sources.specs.Source.{Source, Sound, proposed};
 
 /// A source of proposals for the root of a word, the largest whole number whose square is at most
-/// `word * 2^44`. All that code may use of a source is its law.
+/// `word * 2^44`. What code may use of a source is its law and what it answers.
 pub trait RootSource {
     ghost meaning: { Self → Source };
 
