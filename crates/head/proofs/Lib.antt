@@ -1,0 +1,4 @@
+pub mod Lengths
+pub mod Patterns
+pub mod Sides
+pub mod Heads

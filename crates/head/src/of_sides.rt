@@ -1,0 +1,1 @@
+//! The head of two or three sides.
