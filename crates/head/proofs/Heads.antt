@@ -15,6 +15,7 @@ use Rattle.floats.specs.Units.{unit}
 use Rattle.floats.specs.Holds.{Holds}
 use Rattle.floats.proofs.Fractions.{rescale}
 use Rattle.head.specs.Head.{Heads, Ordinary, Has-head, Head-exists, Head-is-unique, pattern-word, pattern-places}
+use Rattle.head.proofs.Powers.{four-pos, four-more}
 use Rattle.head.proofs.Patterns.{Parts, parts}
 
 -- One head at most.
@@ -25,15 +26,6 @@ cross nan a c b d v w = absurd v
 cross (inf s) a c b d v w = absurd v
 cross (fin s m e) a c b d v w =
     eq-of-mul-eq-mul-right (down e) (down-pos e) (a * d) (b * c) (omega (arith, ap (λ (z : ℕ). z * d) (v .1), ap (λ (z : ℕ). z * c) (w .1)))
-
-four-pos : (a : ℕ) → 0 < 4 ^ a
-four-pos a = subst (λ (x : ℕ). 0 < x) (sym (four-is a)) (pow-pos (2 * a))
-
-four-more : (a b : ℕ) → a < b → 4 * 4 ^ a ≤ 4 ^ b
-four-more a b l =
-    subst (λ (x : ℕ). 4 * 4 ^ a ≤ x) (sym (four-is b))
-    (subst (λ (x : ℕ). 4 * x ≤ 2 ^ (2 * b)) (sym (four-is a))
-    (le-trans (le-of-eq (sym (pow-add 2 2 (2 * a)))) (pow-mono {i = 2 + 2 * a} {j = 2 * b} (omega arith))))
 
 not-lower : (h : Float) (w a v b : ℕ) → Heads h w a → Heads h v b → a < b → ⊥
 not-lower h w a v b p q l =

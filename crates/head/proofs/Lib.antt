@@ -4,3 +4,8 @@ pub mod Sides
 pub mod Heads
 pub mod Budget
 pub mod FloatSums
+pub mod Powers
+pub mod NearRoots
+pub mod Scales
+pub mod Radicands
+pub mod Places

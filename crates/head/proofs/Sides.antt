@@ -17,18 +17,18 @@ use Rattle.head.specs.Side.{Full, scaled-side, side-pattern}
 use Rattle.head.proofs.Patterns.{no-nan, normal-pattern, same-float}
 
 -- how many units the last bit of a side's significand is
-abbrev pub step : ℕ → ℕ
+unfoldable pub step : ℕ → ℕ
 step below = 2 ^ (1022 - below)
 
 spans : (d : ℕ) → d ≤ 28 → step d * 2 ^ (52 + d) ≡ unit
-unfolding unit
+unfolding unit step
 spans d l = let e : (1022 - d) + (52 + d) ≡ 1074 = omega arith in sym (pow-add 2 (1022 - d) (52 + d)) ∙ ap (λ (y : ℕ). 2 ^ y) e
 
 pub span : (d : ℕ) → d ≤ 28 → step d * (2 ^ 52 * 2 ^ d) ≡ unit
 span d l = ap (λ (y : ℕ). step d * y) (sym (pow-add 2 52 d)) ∙ spans d l
 
 pub side-holds : (m d : ℕ) → Full m → d ≤ 28 → Holds (scaled-side m d) (m * step d)
-unfolding scaled-side unit
+unfolding scaled-side unit step
 side-holds m d f l =
     let s : m * 2 ^ 1074 ≡ m * step d * 2 ^ (52 + d) = ap (λ (y : ℕ). m * y) (sym (spans d l)) ∙ sym (mul-assoc m (step d) (2 ^ (52 + d))) in
     rescale (round binary64 false m (2 ^ (52 + d))) false m (2 ^ (52 + d)) (m * step d) (2 ^ 1074) (pow-pos (52 + d)) (sym s)
@@ -40,7 +40,7 @@ module _ (bits m d : ℕ) (full : Full m) (close : d ≤ 28) (e : bits ≡ side-
   pattern-number = subst (λ (b : ℕ). T (not (nanBits binary64 b))) (sym e) (no-nan (1022 - d) m (omega arith) (full .most))
 
   pub pattern-side : ofBits binary64 bits ≡ scaled-side m d
-  unfolding scaled-side
+  unfolding scaled-side step
   pattern-side =
       ap (ofBits binary64) e
       ∙ same-float (ofBits binary64 (side-pattern m d)) (scaled-side m d) (m * step d) (ofBits-fits binary64 (side-pattern m d)) (round-fits binary64 false m (2 ^ (52 + d)))

@@ -36,8 +36,3 @@ Near-root n scale word places =
 abbrev pub Near-without-third : ℕ → ℕ → ℕ → ℕ → ℕ → Type 0
 Near-without-third m n d word places =
     (k e : ℕ) → k * 2 ^ 27 < m * 2 ^ e → Near-root (three-exact m n d k e) (52 + d + e) word places
-
--- at least 1 and below 16, so that the word has 30 or 31 places
-pub record Places-of-sum (places : ℕ) : Type 0 where
-  pub least : 30 ≤ places
-  pub most : places ≤ 31

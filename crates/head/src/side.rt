@@ -44,3 +44,16 @@ fn scaled_pattern(m: u64, below: u64) -> u64
 {
     (1022 - below) * 0x10_0000_0000_0000 + m
 }
+
+#[cfg(test)]
+mod tests {
+    use super::*;
+    use std::test::*;
+
+    #[test]
+    fn short() -> Result<(), Fail> {
+        let three = full_length(3);
+        check_eq(three.significand, 0x18_0000_0000_0000)?;
+        check_eq(three.moved, 51)
+    }
+}
