@@ -1,20 +1,19 @@
 -- The head of a float. Two words of 63 or 64 bits over unlike powers of four differ, so there is one head at most; the pattern of the float gives it.
 use mathlib.Core.Path.{_≡_, refl, sym, ap, _∙_, subst}
-use mathlib.Core.Logic.{_⊎_, inl, inr}
 use mathlib.Core.Bool.{false, cond}
-use Prim.Native.Nat.{ℕ, zero, suc, _+_, _-_, _*_, _/_, _%_, _^_, _≤_, _<_}
-use native.Mathlib.Nat.{mul-assoc, mul-pos, mul-le-mul, mul-le-mul-left, mul-le-mul-right, mul-lt-mul-of-pos-right, eq-of-mul-eq-mul-right, le-trans, le-of-eq, pow-succ'}
+use Prim.Native.Nat.{ℕ, zero, suc, _+_, _*_, _/_, _%_, _^_, _≤_, _<_}
+use native.Mathlib.Nat.{mul-assoc, mul-le-mul, mul-lt-mul-of-pos-right, eq-of-mul-eq-mul-right}
 use native.Mathlib.Omega.{arith}
 use lib.Dec.{T, eqb}
-use lib.Pow.{pow-add, pow-pos, pow-mono}
-use lib.Ieee.{Float, nan, inf, fin, binary64, toBits, fits, up, down}
+use lib.Pow.{pow-add, pow-pos}
+use lib.Ieee.{Float, nan, inf, fin, binary64, toBits, fits, down}
 use lib.Ieee.Exact.{HasValue}
 use lib.Ieee.Fits.{down-pos}
 use Rattle.exact.proofs.Ulps.{four-is}
 use Rattle.floats.specs.Units.{unit}
 use Rattle.floats.specs.Holds.{Holds}
 use Rattle.floats.proofs.Fractions.{rescale}
-use Rattle.head.specs.Head.{Heads, Ordinary, Has-head, Head-exists, Head-is-unique, pattern-word, pattern-places}
+use Rattle.head.specs.Head.{Heads, Ordinary, Head-exists, Head-is-unique, pattern-word, pattern-places}
 use Rattle.head.proofs.Powers.{four-pos, four-more}
 use Rattle.head.proofs.Patterns.{Parts, parts}
 
@@ -60,8 +59,8 @@ module _ (h : Float) (bits : ℕ) (p : Parts h bits) where
   fields : (bits / 2 ^ 52 ≡ p .k + 1) × (bits % 2 ^ 52 + 2 ^ 52 ≡ p .q)
   fields = omega (arith, p .pattern, p .low-digits, p .high-digits)
 
-  head-at : (r j w a : ℕ) → w ≡ p .q * 2 ^ j → p .k + 2 * a ≡ j + 1074 → 2 ^ 62 ≤ w → w < 2 ^ 64 → Heads h w a
-  head-at r j w a e s lo hi = record { value = word-value h (p .k) (p .q) w j a e s (p .value); least = lo; most = hi }
+  head-at : (j w a : ℕ) → w ≡ p .q * 2 ^ j → p .k + 2 * a ≡ j + 1074 → 2 ^ 62 ≤ w → w < 2 ^ 64 → Heads h w a
+  head-at j w a e s lo hi = record { value = word-value h (p .k) (p .q) w j a e s (p .value); least = lo; most = hi }
 
   pub pattern-heads : Heads h (pattern-word bits) (pattern-places bits)
   pattern-heads = go (bits / 2 ^ 52 % 2) refl
@@ -69,10 +68,10 @@ module _ (h : Float) (bits : ℕ) (p : Parts h bits) where
       go : (r : ℕ) → bits / 2 ^ 52 % 2 ≡ r → Heads h (pattern-word bits) (pattern-places bits)
       go zero e =
           let w : pattern-word bits ≡ p .q * 2 ^ 11 = (λ i. fields .1 i * cond (eqb (e i) 0) (2 ^ 11) (2 ^ 10)) in
-          head-at 0 11 (pattern-word bits) (pattern-places bits) w (omega (arith, fields, p .low-place, p .high-place)) (omega (arith, w, p .low-digits)) (omega (arith, w, p .high-digits))
+          head-at 11 (pattern-word bits) (pattern-places bits) w (omega (arith, fields, p .low-place, p .high-place)) (omega (arith, w, p .low-digits)) (omega (arith, w, p .high-digits))
       go (suc zero) e =
           let w : pattern-word bits ≡ p .q * 2 ^ 10 = (λ i. fields .1 i * cond (eqb (e i) 0) (2 ^ 11) (2 ^ 10)) in
-          head-at 0 10 (pattern-word bits) (pattern-places bits) w (omega (arith, fields, p .low-place, p .high-place)) (omega (arith, w, p .low-digits)) (omega (arith, w, p .high-digits))
+          head-at 10 (pattern-word bits) (pattern-places bits) w (omega (arith, fields, p .low-place, p .high-place)) (omega (arith, w, p .low-digits)) (omega (arith, w, p .high-digits))
       go (suc (suc r)) e = absurd (omega arith)
 
 pub head-exists : Head-exists

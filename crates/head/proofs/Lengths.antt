@@ -1,12 +1,12 @@
 -- A number below 2 ^ 53 brought to 53 bits: its leading bit at place j goes up by 52 - j places, which the zeros above it count.
-use mathlib.Core.Path.{_≡_, sym, ap, _∙_}
+use mathlib.Core.Path.{_≡_, sym, ap, _∙_, subst}
 use Prim.Native.Nat.{ℕ, suc, _+_, _-_, _*_, _%_, _^_, _≤_, _<_}
 use native.Mathlib.Nat.{le-trans, le-of-eq, lt-of-lt-of-le, lt-of-not-le, not-le-of-lt, mul-le-mul-right, mul-lt-mul-of-pos-right, mod-eq-of-lt, le-of-suc-le-suc}
 use native.Mathlib.Omega.{arith}
 use lib.Pow.{pow-add, pow-pos, pow-mono}
 use lib.Count.{leadingZeros}
 use Rattle.std.proofs.shelf.Bits.{leading-top}
-use Rattle.head.specs.Side.{Full}
+use Rattle.head.specs.Side.{Full, spare-places}
 
 pub record Moved (k zeros : ℕ) : Type 0 where
   pub room : 11 ≤ zeros
@@ -26,3 +26,10 @@ moved-from k zeros j h e lo hi =
 
 pub moved : (k : ℕ) → 0 < k → k < 2 ^ 53 → Moved k (leadingZeros 64 k)
 moved k p h = let t = leading-top 64 k p (omega arith) in moved-from k (leadingZeros 64 k) (t .0) h (t .1) (t .2) (t .3)
+
+-- what the code moves up
+pub moved-full : (k m j : ℕ) → 0 < k → k < 2 ^ 53 → m ≡ k * 2 ^ spare-places k % 2 ^ 64 → j ≡ spare-places k → Full m × (m ≡ k * 2 ^ j) × (j ≤ 52)
+moved-full k m j p h e d =
+    let z = moved k p h in
+    let v : m ≡ k * 2 ^ spare-places k = e ∙ z .whole in
+    (subst Full (sym v) (z .full), v ∙ ap (λ (x : ℕ). k * 2 ^ x) (sym d), subst (λ (x : ℕ). x ≤ 52) (sym d) (z .bound))

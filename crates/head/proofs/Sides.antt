@@ -4,9 +4,9 @@ use mathlib.Core.Bool.{false, not}
 use Prim.Native.Nat.{ℕ, _+_, _-_, _*_, _^_, _≤_, _<_}
 use native.Mathlib.Nat.{lt-of-lt-of-le, mul-assoc, mul-le-mul-left}
 use native.Mathlib.Omega.{arith}
-use lib.Dec.{T, lit<, lit≤}
+use lib.Dec.{T}
 use lib.Pow.{pow-add, pow-pos, pow-mono, shl-lt}
-use lib.Ieee.{Float, binary64, fits, round, ofBits, nanBits}
+use lib.Ieee.{binary64, round, ofBits, nanBits}
 use lib.Ieee.Bits.{ofBits-fits}
 use lib.Ieee.Exact.{round-exact}
 use lib.Ieee.Fits.{round-fits}

@@ -1,7 +1,8 @@
 //! Sides as floats, from significands of 53 bits.
 ghost use mathlib.Core.Path.{_≡_};
-ghost use Prim.Native.Nat.{_*_, _^_, _<_, _≤_};
-ghost use Rattle.head.specs.Side.{Full, scaled-side, side-pattern};
+ghost use Prim.Native.Nat.{_*_, _%_, _^_, _<_, _≤_};
+ghost use lib.Count.{leadingZeros};
+ghost use Rattle.head.specs.Side.{Full, spare-places, scaled-side, side-pattern};
 
 /// A significand of exactly 53 bits, and by how many binary places it was moved up.
 #[derive(Clone, Copy)]
@@ -18,6 +19,15 @@ pub fn full_length(k: u64) -> FullSignificand
     ensures full { λ r. ⌜ Full (r .significand) ⌝ }
     ensures value { λ r. ⌜ r .significand ≡ k * 2 ^ r .moved ⌝ }
     ensures bound { λ r. ⌜ r .moved ≤ 52 ⌝ }
+{
+    moved_up(k)
+}
+
+// The significand moved up by all but 11 of the zeros above its leading bit.
+fn moved_up(k: u64) -> FullSignificand
+    requires { ⌜ 11 ≤ leadingZeros 64 k ⌝ }
+    ensures significand { λ r. ⌜ r .significand ≡ k * 2 ^ spare-places k % 2 ^ 64 ⌝ }
+    ensures moved { λ r. ⌜ r .moved ≡ spare-places k ⌝ }
 {
     let moved = k.leading_zeros() - 11;
     FullSignificand {
