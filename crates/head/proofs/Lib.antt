@@ -1,0 +1,11 @@
+pub mod Lengths
+pub mod Patterns
+pub mod Sides
+pub mod Heads
+pub mod Budget
+pub mod FloatSums
+pub mod Powers
+pub mod NearRoots
+pub mod Scales
+pub mod Radicands
+pub mod Places

@@ -1,0 +1,4 @@
+pub mod Side
+pub mod Squares
+pub mod Head
+pub mod Bound
