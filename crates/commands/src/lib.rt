@@ -1,4 +1,6 @@
 //! The text of a sheet: lines to commands, answers to bytes, and input to lines.
+#![tactic(auto)]
+
 pub mod buffer;
 pub mod command;
 pub mod examples;

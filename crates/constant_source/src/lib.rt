@@ -1,5 +1,7 @@
 //! The coarsest root source: it always proposes `2^53`, the least root of a word, so its grade is
 //! 53. Steps of a refiner cannot better that grade.
+#![tactic(auto)]
+
 ghost use Rattle.std.specs.Prelude.{◌≡◌, ℕ};
 ghost use Rattle.sources.specs.Refined.{refined};
 ghost use Rattle.constant_source.specs.Constant.{constant_source};

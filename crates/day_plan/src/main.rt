@@ -1,5 +1,6 @@
 //! Plans a day of measurements: seals solvers over different root sources, runs their calls and
 //! columns into refusals and through new scans, and prints logs and the account of each scan.
+#![tactic(auto)]
 
 mod calls;
 mod scans;

@@ -3,6 +3,8 @@
 //! A line gives a first guess, and Newton steps square the relative error: that of the guess's
 //! square is at most 1/8, then 1/120, 2^-14, 2^-28 and 24/2^54, where the roundings of the last step
 //! are what is left. So the root of 54 bits is off by at most 15.
+#![tactic(auto)]
+
 ghost use Rattle.std.specs.Prelude.{◌≡◌, ◌^◌, ◌≤◌};
 ghost use Rattle.float_source.specs.FloatProposal.{
   Held,

@@ -3,6 +3,8 @@
 //!
 //! A pattern does not depend on the root source, so these take a quick one; their contracts name the
 //! digit source's answer.
+#![tactic(auto)]
+
 ghost use Rattle.std.specs.Prelude.{◌≡◌};
 ghost use Rattle.forms.specs.Binary.{binary64, binary32};
 ghost use Rattle.sources.specs.Source.{exact_source};

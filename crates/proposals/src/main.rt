@@ -1,4 +1,6 @@
 //! Prints what each root source proposes for the words on its command line, in hexadecimal digits.
+#![tactic(auto)]
+
 use constant_source::ConstantSource;
 use float_source::FloatSource;
 use sources::digit::DigitSource;

@@ -1,4 +1,6 @@
 //! Exact radicands in words.
+#![tactic(auto)]
+
 mod limbs;
 mod scale;
 pub mod sides;

@@ -1,4 +1,6 @@
 //! Reads a pair of probe readings from each line of standard input and prints their resultant.
+#![tactic(auto)]
+
 use forms::number_form::NumberForm;
 use forms::reading::Reading;
 use forms::thousandths::Thousandths;

@@ -1,4 +1,6 @@
 //! Sides by their magnitudes: their order, the far ones, their head and their exact radicand.
+#![tactic(auto)]
+
 pub mod order;
 pub mod ordered;
 pub mod pose;

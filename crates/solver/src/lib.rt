@@ -1,4 +1,6 @@
 //! Solvers: length calls under an allowance of steps, and the log of a sealed solver.
+#![tactic(auto)]
+
 pub mod log;
 pub mod refusal;
 pub mod session;

@@ -3,6 +3,8 @@
 //! A vector is two lines: a call as the text layer reads it, and what is known of its answer. `= ` with
 //! pattern and count, or with the pattern alone, is the right answer; `x ` with a pattern is an answer
 //! that is known to be wrong, and has to differ. Lines that begin with `#` are headings.
+#![tactic(auto)]
+
 use commands::command::{Command, Request};
 use commands::line_buffer::LineBuffer;
 use commands::parse::parse;

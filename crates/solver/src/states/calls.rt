@@ -6,7 +6,7 @@
 ghost use Rattle.std.specs.Prelude.{◌≡◌, ◌≤◌};
 ghost use Rattle.lengths.specs.declared.call.Call.TheVariants.{Hypot, Cathetus, ThreeSides};
 ghost use Rattle.lengths.specs.LengthOf.{length_of};
-ghost use Rattle.solver.specs.Sealing.{reserve as reserve-of};
+ghost use Rattle.solver.specs.Sealing.{reserve as reserve_of};
 ghost use Rattle.solver.specs.Serving.{serves, call_result, after_call, after_scan, reply_to, after_request};
 ghost use Rattle.solver.specs.Log.{Logs, told_call, told_scan, told};
 
@@ -114,7 +114,7 @@ impl<F: NumberForm, R: RootSource> Sealed<F, R> {
     fn bounded_length(&self, call: Call<F::Pattern>) -> Measured<F::Pattern>
         requires { (R.RootSource.meaning self.now.source).grade ≤ 7 }
         ensures value { result ≡ length_of F.NumberForm.encoding (R.RootSource.meaning self.now.source) call }
-        ensures bound { result.count ≤ reserve-of (R.RootSource.meaning self.now.source) }
+        ensures bound { result.count ≤ reserve_of (R.RootSource.meaning self.now.source) }
     {
         self.length(call)
     }
