@@ -1,5 +1,5 @@
 -- A root of 54 bits lies less than 2 ^ 53 above the least of them.
-use Rattle.std.specs.Prelude.{◌≡◌, ℕ, zero, suc, ◌^◌, refl}
+use Rattle.std.specs.Prelude.{◌≡◌, ℕ, zero, suc, refl}
 use Rattle.std.proofs.Common.{ap, arith}
 use Rattle.sources.specs.Source.{Sound}
 use Rattle.sources.specs.Refined.{refined_grade, repeated, refined}

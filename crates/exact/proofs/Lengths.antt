@@ -1,5 +1,5 @@
 -- The length: every radicand has one, the computed one, and no other.
-use Rattle.std.proofs.Common.{◌≡◌, ℕ, ◌+◌, ◌-◌, ◌*◌, ◌^◌, ◌<◌, ◌≤◌, Bool, true, false, cond, eqb, sym, refl, ap, ◌∙◌, subst, arith, eq-eqb, ne_eqb, eqb-true}
+use Rattle.std.proofs.Common.{◌≡◌, ℕ, ◌+◌, ◌-◌, ◌^◌, ◌≤◌, Bool, true, false, cond, eqb, sym, refl, ap, ◌∙◌, subst, arith, eq-eqb, ne_eqb, eqb-true}
 use borrow.Author.Tests.{eqb-false}
 use Rattle.exact.specs.Length.{Ulp, NearestWhole, Length, kept, carried, ulp_exponent, rounded_root, length_significand, length_exponent}
 use Rattle.exact.specs.Nearest.{LengthExists, LengthIsUnique}

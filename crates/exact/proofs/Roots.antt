@@ -3,7 +3,7 @@ use Rattle.std.proofs.Common.{◌≡◌, ℕ, zero, suc, ◌+◌, ◌*◌, ◌/�
 use native.Mathlib.Nat.{lt-div-mul-add, pow-le-pow_left}
 use lib.Ieee.{size}
 use lib.Ieee.Digits.{size-lt}
-use Rattle.exact.specs.Root.{FloorRoot, next_digit, root_by_digits, isqrt}
+use Rattle.exact.specs.Root.{FloorRoot, root_by_digits, isqrt}
 use Rattle.exact.proofs.Squares.{lt_of_squares}
 
 pub root_unique : (n r s : ℕ) → FloorRoot n r → FloorRoot n s → r ≡ s

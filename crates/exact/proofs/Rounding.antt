@@ -1,6 +1,6 @@
 -- From the floor d of twice the root, in units of 2 ^ e, to the nearest whole number: d tells on which side of
 -- k - 1/2 and k + 1/2 the root lies, and whether d is exact tells whether it lies on one of them.
-use Rattle.std.proofs.Common.{◌≡◌, ℕ, ◌+◌, ◌-◌, ◌*◌, ◌/◌, ◌%◌, ◌^◌, ◌<◌, ◌≤◌, Bool, true, false, cond, ◌&&◌, eqb, ltb, ◌⊎◌, sym, refl, ◌∙◌, subst, inl, inr, le_trans, le_of_eq, lt_of_lt_of_le, mul-le-mul_right, le_antisymm, eq-or-lt_of_le, le_of_mul-le-mul_right, arith, ltb-false, ltb-true, eqb-true}
+use Rattle.std.proofs.Common.{◌≡◌, ℕ, ◌+◌, ◌-◌, ◌*◌, ◌/◌, ◌%◌, ◌^◌, ◌<◌, ◌≤◌, Bool, true, false, cond, ◌&&◌, eqb, ltb, sym, refl, ◌∙◌, subst, inl, inr, le_trans, le_of_eq, lt_of_lt_of_le, mul-le-mul_right, le_antisymm, eq-or-lt_of_le, le_of_mul-le-mul_right, arith, ltb-false, ltb-true, eqb-true}
 use native.Mathlib.Nat.{eq_of_mul-eq-mul_right}
 use borrow.Author.Tests.{eqb-false}
 use Rattle.exact.specs.Root.{isqrt}

@@ -1,5 +1,5 @@
 -- Orders of squares and powers: a square root is monotone, and 4 ^ e is the square of 2 ^ e.
-use Rattle.std.proofs.Common.{◌≡◌, ℕ, zero, suc, ◌+◌, ◌-◌, ◌*◌, ◌^◌, ◌<◌, ◌≤◌, ◌⊎◌, sym, refl, ap, ◌∙◌, subst, inl, inr, mul_assoc, eq-zero-or-pos, mul-le-mul, lt_of_not-le, arith, pow-add}
+use Rattle.std.proofs.Common.{◌≡◌, ℕ, zero, suc, ◌+◌, ◌-◌, ◌*◌, ◌^◌, ◌<◌, ◌≤◌, ◌⊎◌, sym, refl, ap, ◌∙◌, inl, inr, mul_assoc, eq-zero-or-pos, mul-le-mul, lt_of_not-le, arith, pow-add}
 use native.Mathlib.Nat.{pow-le-pow_right, one-le-pow}
 
 pub lt_of_squares : (a b : ℕ) → a * a < b * b → a < b

@@ -1,13 +1,13 @@
 -- Roots above the largest value: they have its last place or a higher one, so they round to its significand or past it.
-use Rattle.std.proofs.Common.{◌≡◌, ℕ, ◌+◌, ◌-◌, ◌*◌, ◌%◌, ◌^◌, ◌<◌, ◌≤◌, ◌⊎◌, sym, ap, ◌∙◌, subst, inl, inr, le_trans, le_of_eq, mul-le-mul_right, le_antisymm, mul-lt-mul_of_pos_right, arith, pow_pos, pow-add}
+use Rattle.std.proofs.Common.{◌≡◌, ℕ, ◌+◌, ◌-◌, ◌*◌, ◌%◌, ◌^◌, ◌<◌, ◌≤◌, sym, ap, ◌∙◌, subst, inl, inr, le_trans, le_of_eq, mul-le-mul_right, le_antisymm, mul-lt-mul_of_pos_right, arith, pow_pos, pow-add}
 use Rattle.std.proofs.lemmas.Nat.{mul-lt}
 use Rattle.exact.specs.declared.form.Form.{Form}
 use Rattle.exact.specs.Value.{InRange, units, largest_value}
-use Rattle.exact.specs.Length.{Ulp, NearestWhole, Length, kept, carried}
+use Rattle.exact.specs.Length.{Ulp, NearestWhole, kept, carried}
 use Rattle.exact.specs.Nearest.{top_middle, RoundsAtTop, LengthAtTop}
 use Rattle.exact.proofs.Squares.{squares_le, le_unless, lt_or_le, four_two, four_pos, two_le, two_half, square_at}
 use Rattle.exact.proofs.Rounding.{nearest_whole_unique}
-use Rattle.exact.proofs.Ulps.{rounded_least, significand_full}
+use Rattle.exact.proofs.Ulps.{significand_full}
 use Rattle.exact.proofs.Nearness.{smaller}
 use Rattle.exact.proofs.Values.{some_bits, carry_units}
 

@@ -1,9 +1,9 @@
 -- The exponent of the last place: it is one for each radicand, and bounds the rounded root from both sides.
-use Rattle.std.proofs.Common.{◌≡◌, ℕ, zero, suc, ◌+◌, ◌-◌, ◌*◌, ◌/◌, ◌^◌, ◌<◌, ◌≤◌, ◌⊎◌, sym, refl, ap, ◌∙◌, subst, inl, inr, le_trans, lt_of_lt_of_le, eq-zero-or-pos, le_antisymm, le_of_mul-le-mul_right, arith, pow_pos, pow-add}
+use Rattle.std.proofs.Common.{◌≡◌, ℕ, ◌+◌, ◌-◌, ◌*◌, ◌/◌, ◌^◌, ◌<◌, ◌≤◌, sym, ap, ◌∙◌, subst, inl, inr, lt_of_lt_of_le, eq-zero-or-pos, le_antisymm, le_of_mul-le-mul_right, arith, pow_pos, pow-add}
 use lib.Ieee.{size}
 use lib.Ieee.Digits.{size-lt, size-le}
 use Rattle.exact.specs.Length.{Ulp, NearestWhole, ulp_exponent}
-use Rattle.exact.proofs.Squares.{le_of_squares, le_unless, four_two, two_le, two_half, square_at}
+use Rattle.exact.proofs.Squares.{le_of_squares, le_unless, four_two, two_le, square_at}
 
 pub four_is : (m : ℕ) → 4 ^ m ≡ 2 ^ (2 * m)
 four_is m = four_two m ∙ sym (pow-add 2 m m) ∙ ap (λ (x : ℕ). 2 ^ x) {x = m + m} {y = 2 * m} (omega arith)

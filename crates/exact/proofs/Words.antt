@@ -1,9 +1,8 @@
 -- The length of a radicand of one word, as the code computes it.
-use Rattle.std.proofs.Common.{◌≡◌, ℕ, ◌+◌, ◌-◌, ◌*◌, ◌/◌, ◌%◌, ◌^◌, ◌<◌, ◌≤◌, Bool, true, false, eqb, ◌⊎◌, sym, refl, ap, ◌∙◌, subst, inl, inr, lt_of_lt_of_le, lt_of_le_of_lt, mod-eq_of_lt, arith, pow_pos, pow-add, eqb-true}
+use Rattle.std.proofs.Common.{◌≡◌, ℕ, ◌+◌, ◌-◌, ◌*◌, ◌/◌, ◌%◌, ◌^◌, ◌<◌, ◌≤◌, eqb, ◌⊎◌, sym, ap, ◌∙◌, subst, inl, inr, lt_of_lt_of_le, lt_of_le_of_lt, mod-eq_of_lt, arith, pow_pos, pow-add, eqb-true}
 use lib.Count.{count_leading_zeros}
 use Rattle.std.proofs.lemmas.Nat.{one_shl}
 use borrow.Author.Tests.{eqb-false}
-use Rattle.exact.specs.Root.{FloorRoot}
 use Rattle.exact.specs.Length.{Ulp, NearestWhole, Length, kept, carried, half_to_even, rounded_root}
 use Rattle.exact.proofs.Squares.{two_le}
 use Rattle.exact.proofs.Roots.{root_of_quotient}

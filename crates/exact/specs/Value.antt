@@ -1,5 +1,5 @@
 -- The values of a number form. Exponents are counted from the form's least one, so all numbers here are natural.
-use Rattle.std.specs.Prelude.{◌≡◌, ℕ, ◌+◌, ◌-◌, ◌*◌, ◌^◌, ◌<◌, ◌≤◌, ℤ, pos, negsuc, ◌+ℤ◌, ◌≤ℤ◌}
+use Rattle.std.specs.Prelude.{◌≡◌, ℕ, ◌-◌, ◌*◌, ◌^◌, ◌<◌, ◌≤◌, pos, negsuc, ◌+ℤ◌, ◌≤ℤ◌}
 use Rattle.exact.specs.declared.form.Form.{Form}
 
 -- k * 2 ^ e in units of the least exponent

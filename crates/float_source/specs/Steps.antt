@@ -1,5 +1,5 @@
 -- The steps in floats: each takes the mean of the guess and a quotient, so the guess's square comes as near to the word as a Newton step brings it.
-use Rattle.std.specs.Prelude.{◌≡◌, ℕ, ◌+◌, ◌*◌, ◌^◌, ◌<◌, ◌≤◌, false, T, from_bits, Float}
+use Rattle.std.specs.Prelude.{◌≡◌, ℕ, ◌+◌, ◌*◌, ◌^◌, ◌<◌, ◌≤◌, false, from_bits, Float}
 use Rattle.std.proofs.Common.{ap, mul-one, mul-le-mul_right, arith, lit<, lit≤}
 use Rattle.std.specs.Float.Ieee.{binary64, round, add, div, of_int}
 use Rattle.std.specs.Float.Ieee.Back.{round_whole}

@@ -1,6 +1,5 @@
 -- The binary interchange formats: from the top a sign bit, an exponent field of w bits and a fraction field of t bits.
-use Rattle.std.specs.Prelude.{ℕ, ◌+◌, ◌-◌, ◌*◌, ◌/◌, ◌%◌, ◌^◌, Bool, true, false, cond, ℤ, negsuc, ◌==◌, nat_le, nat_lt}
-use Rattle.exact.specs.declared.form.Form.{Form}
+use Rattle.std.specs.Prelude.{ℕ, ◌+◌, ◌-◌, ◌*◌, ◌/◌, ◌%◌, ◌^◌, Bool, cond, ℤ, negsuc, ◌==◌, nat_le, nat_lt}
 use Rattle.forms.specs.declared.reading.Reading.{Reading}
 use Rattle.forms.specs.declared.reading.Reading.TheVariants.{Finite, Infinite, QuietNan, SignallingNan}
 use Rattle.forms.specs.Encoding.{Encoding}

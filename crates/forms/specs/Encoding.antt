@@ -1,9 +1,9 @@
 -- How the patterns of type P encode the values of a number form, and what every form keeps to.
-use Rattle.std.specs.Prelude.{◌≡◌, ℕ, Bool, true, false}
+use Rattle.std.specs.Prelude.{◌≡◌, ℕ, Bool, false}
 use Rattle.exact.specs.declared.form.Form.{Form}
 use Rattle.exact.specs.Value.{Value, InRange}
 use Rattle.forms.specs.declared.reading.Reading.{Reading}
-use Rattle.forms.specs.declared.reading.Reading.TheVariants.{Finite, Infinite, QuietNan, SignallingNan}
+use Rattle.forms.specs.declared.reading.Reading.TheVariants.{Finite, Infinite, QuietNan}
 
 pub record Encoding (P : Type 0) : Type 0 where
   -- precision, exponents and largest significand

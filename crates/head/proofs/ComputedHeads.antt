@@ -1,16 +1,15 @@
 -- A head is the computed one: from 2 ^ 62 * 2 ^ 1074 <= g * 4 ^ a < 2 ^ 64 * 2 ^ 1074, for a float of g units, the size of g
 -- tells a, and then the word.
-use Rattle.std.proofs.Common.{◌≡◌, ℕ, zero, suc, ◌+◌, ◌-◌, ◌*◌, ◌/◌, ◌^◌, ◌<◌, ◌≤◌, Bool, true, false, T, nat_abs, sym, refl, ap, ◌∙◌, subst, true≢false, le_trans, le_of_eq, lt_of_lt_of_le, lt_of_le_of_lt, mul-le-mul_right, mul-lt-mul_of_pos_right, lt_of_not-le, not-le_of_lt, mul-div_cancel, arith, lit<, lit≤, pow_pos, pow_mono, pow-add}
-use lib.Pow.{pow-lt}
+use Rattle.std.proofs.Common.{◌≡◌, ℕ, zero, suc, ◌+◌, ◌-◌, ◌*◌, ◌/◌, ◌^◌, ◌<◌, ◌≤◌, Bool, false, T, nat_abs, sym, ap, ◌∙◌, subst, lt_of_lt_of_le, lt_of_le_of_lt, mul-le-mul_right, mul-lt-mul_of_pos_right, lt_of_not-le, not-le_of_lt, mul-div_cancel, arith, lit<, pow_pos, pow_mono, pow-add}
 use lib.Ieee.{Float, nan, inf, fin, binary64, fits, size}
-use lib.Ieee.Digits.{size-lt, size-le, size_reaches}
+use lib.Ieee.Digits.{size-lt, size_reaches}
 use lib.Ieee.Exact.{HasValue}
 use lib.Ieee.Scale.{finite}
 use Rattle.exact.proofs.Ulps.{four_is}
 use Rattle.floats.specs.Units.{unit, units, signed}
 use Rattle.floats.specs.Holds.{Holds}
-use Rattle.floats.proofs.Values.{Is, Known, known, unit_positive}
-use Rattle.head.specs.Head.{Heads, head_word, head_places, HeadIsComputed}
+use Rattle.floats.proofs.Values.{known, unit_positive}
+use Rattle.head.specs.Head.{head_word, head_places, HeadIsComputed}
 use Rattle.head.proofs.Heads.{cross}
 
 power_order : (a b : ℕ) → 2 ^ a < 2 ^ b → a < b

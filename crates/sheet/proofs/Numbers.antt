@@ -1,9 +1,8 @@
 -- Reading a field byte by byte: what is read so far and what is left make up the whole.
-use Rattle.std.proofs.Common.{◌≡◌, ℕ, ◌+◌, ◌*◌, ◌^◌, ◌<◌, ◌≤◌, Bool, true, false, cond, eqb, List, [], ◌∷◌, length, get_or, drop, is_some, Some, None, Ok, Err, Option, Result, unwrap_or, sym, refl, ap, ◌∙◌, subst, add-one, arith, drop-cons, pow-add, eq-eqb, ne_eqb}
+use Rattle.std.proofs.Common.{◌≡◌, ℕ, ◌+◌, ◌*◌, ◌^◌, ◌<◌, ◌≤◌, Bool, cond, List, [], ◌∷◌, length, get_or, drop, is_some, Some, None, Ok, Err, unwrap_or, refl, ap, ◌∙◌, add-one, arith, drop-cons, pow-add, eq-eqb, ne_eqb}
 use native.Mathlib.Nat.{pow-le-pow_right}
 use lib.Seq.{drop-length}
 use Rattle.std.proofs.lemmas.Bool.Decides.{nat_tests}
-use Rattle.sheet.specs.declared.hex.NotADigit.{NotADigit}
 use Rattle.sheet.specs.Hex.{hex_digit, leading_digits, spelt_behind, hex_number}
 
 -- after i bytes, all digits, which spell value

@@ -1,5 +1,5 @@
 -- The worked proposals, each by computation.
-use Rattle.std.proofs.Common.{ℕ, ◌*◌, ◌^◌, refl}
+use Rattle.std.proofs.Common.{◌*◌, ◌^◌, refl}
 use lib.Ieee.{size}
 use Rattle.exact.specs.Root.{root_by_digits, isqrt}
 use Rattle.exact.proofs.Roots.{isqrt_is}

@@ -1,6 +1,6 @@
 -- Worked proposals.
 use Rattle.std.specs.Prelude.{◌≡◌, ℕ, ◌+◌, ◌-◌, ◌*◌, ◌^◌, Some, None}
-use Rattle.sources.specs.Source.{Source, WordRoot, proposed, exact_source}
+use Rattle.sources.specs.Source.{WordRoot, proposed, exact_source}
 use Rattle.sources.specs.Table.{table_source}
 use Rattle.sources.specs.Refined.{refined}
 use Rattle.sources.specs.Refiner.{steps_refused}

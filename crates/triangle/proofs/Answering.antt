@@ -1,5 +1,5 @@
 -- One pattern answers for each outcome: the length is the computed one, and its value has one pattern.
-use Rattle.std.proofs.Common.{◌≡◌, ℕ, ◌+◌, ◌*◌, ◌<◌, ◌≤◌, Bool, true, false, cond, leb, List, [], ◌∷◌, sym, refl, ap, ◌∙◌, subst, arith, leb-false, leb-true}
+use Rattle.std.proofs.Common.{◌≡◌, ℕ, ◌+◌, ◌*◌, ◌<◌, ◌≤◌, Bool, true, false, cond, leb, [], ◌∷◌, sym, refl, ap, ◌∙◌, subst, arith, leb-false, leb-true}
 use Rattle.exact.specs.Value.{Value, units, largest_value}
 use Rattle.exact.specs.Length.{Length, length_significand, length_exponent}
 use Rattle.exact.proofs.Lengths.{length_exists, length_unique}

@@ -1,5 +1,5 @@
 -- Where nothing about the sides is special, they come to the root of the sum of their squares.
-use Rattle.std.proofs.Common.{◌≡◌, ℕ, ◌+◌, ◌*◌, Bool, true, false, cond, List, [], ◌∷◌, Some, None, Option, refl, ap, ◌∙◌, arith}
+use Rattle.std.proofs.Common.{◌≡◌, ℕ, ◌+◌, ◌*◌, Bool, true, false, cond, List, [], ◌∷◌, None, refl, ap, ◌∙◌, arith}
 use Rattle.forms.specs.declared.reading.Reading.{Reading}
 use Rattle.forms.specs.Encoding.{Encoding}
 use Rattle.triangle.specs.Outcome.{Outcome, not_a_number, infinite, root_of, is_signalling, is_infinite, is_quiet, some, magnitude, sum_of_squares, hypot_outcome}

@@ -1,10 +1,10 @@
 -- The pattern that answers for an outcome, in any number form: as a function, and as a relation that says what is right of it.
-use Rattle.std.specs.Prelude.{◌≡◌, ℕ, ◌*◌, ◌<◌, ◌≤◌, Bool, true, false, cond, List, [], ◌∷◌, map, Some, None, Option, nat_le}
+use Rattle.std.specs.Prelude.{◌≡◌, ℕ, ◌*◌, ◌<◌, ◌≤◌, Bool, false, cond, List, [], ◌∷◌, map, Some, None, Option, nat_le}
 use Rattle.exact.specs.Value.{units, largest_value}
 use Rattle.exact.specs.Length.{Length, length_significand, length_exponent}
 use Rattle.exact.specs.Nearest.{Nearest}
 use Rattle.forms.specs.declared.reading.Reading.TheVariants.{Finite, Infinite, QuietNan}
-use Rattle.forms.specs.Encoding.{Encoding, Lawful}
+use Rattle.forms.specs.Encoding.{Encoding}
 use Rattle.triangle.specs.Outcome.{Outcome, not_a_number, infinite, root_of, hypot_outcome}
 
 -- the pattern of k * 2 ^ e, or plus infinity where that is above the largest value

@@ -1,5 +1,5 @@
 -- Worked examples of the definitions, by patterns.
-use Rattle.std.specs.Prelude.{◌≡◌, ℕ, List, [], ◌∷◌}
+use Rattle.std.specs.Prelude.{◌≡◌, [], ◌∷◌}
 use Rattle.forms.specs.Binary.{binary64, binary32}
 use Rattle.forms.specs.Thousandths.{thousandths}
 use Rattle.triangle.specs.Answer.{hypot_pattern}

@@ -14,7 +14,7 @@ loop-i-preserved g c =
     let x = c.index-xs-i.result in
     let y = c.index-ys-i.result in
     let did = c.entry.ensures in
-    let served = served_at c.loop-i.i (call_result encoding meaning c.loop-i.solver (call_of operation x y)) c.in-ok-entry.field-0 c.in-ok-entry.ensures.value in
+    let served = served_at c.loop-i.i (call_result encoding meaning c.loop-i.solver (call_of operation x y)) c.in_ok-entry.field-0 c.in_ok-entry.ensures.value in
     let more =
     rest_more encoding meaning operation c.loop-i.i c.loop-i.solver c.entry.new.solver c.args.xs.now c.args.ys.now c.loop-i.lengths c.entry.new.lengths c.loop-i.counts c.entry.new.counts x y
     did.lengths did.counts did.after c.index-xs-i.is c.index-ys-i.is (omega arith) (omega arith) (omega arith) (omega arith) served.0 served.1 in
@@ -23,16 +23,16 @@ loop-i-preserved g c =
     did.lengths did.counts c.index-xs-i.is c.index-ys-i.is (omega arith) (omega arith) (omega arith) (omega arith) c.loop-i.invariant.1 did.log served.0 served.1 in
     (sym more ∙ c.loop-i.invariant.0, logs)
 
-pub returns-in-err-entry : goal.returns-in-err-entry
-returns-in-err-entry g c =
+pub returns-in_err-entry : goal.returns-in_err-entry
+returns-in_err-entry g c =
     let encoding = g.F.NumberForm.encoding in
     let meaning = g.R.RootSource.meaning in
     let operation = c.args.operation in
     let x = c.index-xs-i.result in
     let y = c.index-ys-i.result in
     let did = c.entry.ensures in
-    let refused = c.in-err-entry.field-0.0 in
-    let why = refused_at c.loop-i.i (call_result encoding meaning c.loop-i.solver (call_of operation x y)) refused c.in-err-entry.ensures.value in
+    let refused = c.in_err-entry.field-0.0 in
+    let why = refused_at c.loop-i.i (call_result encoding meaning c.loop-i.solver (call_of operation x y)) refused c.in_err-entry.ensures.value in
     let p = err_from_is_err_and c.from-residual.result c.from-residual.ensures.1 in
     let is = stopped c.from-residual.result p.0 refused (record { place = c.loop-i.i; refusal = refused.refusal }) p.1 p.2 why.1 in
     let stop =

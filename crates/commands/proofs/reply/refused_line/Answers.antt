@@ -6,5 +6,5 @@ use Rattle.commands.proofs.reply.refused_line.Goals as goal
 pub returns : goal.returns
 returns c =
     refused_line c.args.number c.args.layer c.args.place c.ranges.number.fits c.ranges.place.fits
-    c.new-line.ensures c.push-bytes.ensures c.push-decimal.ensures c.push.ensures
-    (c.push-bytes-2.ensures ∙ ap (λ word. take 81 (kept c.push.new.self ++ word)) c.word.ensures) c.push-2.ensures c.push-decimal-2.ensures c.push-3.ensures
+    c.new-line.ensures c.push_bytes.ensures c.push_decimal.ensures c.push.ensures
+    (c.push_bytes-2.ensures ∙ ap (λ word. take 81 (kept c.push.new.self ++ word)) c.word.ensures) c.push-2.ensures c.push_decimal-2.ensures c.push-3.ensures

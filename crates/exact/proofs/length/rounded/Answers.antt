@@ -4,5 +4,5 @@ use Rattle.exact.proofs.length.rounded.Goals as goal
 
 pub returns : goal.returns
 returns c =
-    c.round-half.ensures
-    ∙ shifted_round c.args.n c.args.exponent c.isqrt-twice.result (omega (arith, c.if-exponent-eq0.false)) c.ranges.n.fits c.isqrt-twice.ensures.square_le c.isqrt-twice.ensures.next-square-gt
+    c.round_half.ensures
+    ∙ shifted_round c.args.n c.args.exponent c.isqrt-twice.result (omega (arith, c.if-exponent-eq0.false)) c.ranges.n.fits c.isqrt-twice.ensures.square_le c.isqrt-twice.ensures.next_square_gt

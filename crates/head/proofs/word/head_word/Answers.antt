@@ -6,11 +6,11 @@ use Rattle.head.proofs.word.head_word.Goals as goal
 passes : (b : Bool) → b ≡ true → T b
 passes b e = subst T (sym e) tt
 
-pub float-to-bits-bits : goal.float-to-bits-bits
-float-to-bits-bits c = is_number c.args.h c.requires
+pub float_to_bits-bits : goal.float_to_bits-bits
+float_to_bits-bits c = is_number c.args.h c.requires
 
-pub places-of-requires : goal.places-of-requires
-places-of-requires c = pattern_field c.args.h (passes _ c.well-formed.0.1) c.requires
+pub places_of-requires : goal.places_of-requires
+places_of-requires c = pattern_field c.args.h (passes _ c.well_formed.0.1) c.requires
 
 pub returns : goal.returns
-returns c = read_head c.args.h (passes _ c.well-formed.0.1) c.requires _ _ c.word-of.ensures c.places-of.ensures
+returns c = read_head c.args.h (passes _ c.well_formed.0.1) c.requires _ _ c.word_of.ensures c.places_of.ensures

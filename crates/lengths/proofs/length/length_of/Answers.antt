@@ -3,4 +3,4 @@ use Rattle.lengths.proofs.length.length_of.Goals as goal
 
 pub returns : goal.returns
 unfolding length_of
-returns g c = record { value = c.by-sides.ensures }
+returns g c = record { value = c.by_sides.ensures }

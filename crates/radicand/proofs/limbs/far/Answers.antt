@@ -6,8 +6,8 @@ pub returns : goal.returns
 returns c =
     far_cut _ c.args.places c.min.result c.min-2.result c.min-3.result _ _ _ _ _ _
     (omega (arith, c.args.wide.limbs))
-    (λ h. omega (arith, c.min.ensures, c.saturating-sub.ensures, c.min-2.ensures, c.saturating-sub-2.ensures, c.min-3.ensures))
-    (λ h. omega (arith, c.min.ensures, c.saturating-sub.ensures, c.min-2.ensures, c.saturating-sub-2.ensures, c.min-3.ensures))
+    (λ h. omega (arith, c.min.ensures, c.saturating_sub.ensures, c.min-2.ensures, c.saturating_sub-2.ensures, c.min-3.ensures))
+    (λ h. omega (arith, c.min.ensures, c.saturating_sub.ensures, c.min-2.ensures, c.saturating_sub-2.ensures, c.min-3.ensures))
     c.lower-first.ensures
     c.lower-second.ensures
     c.lower-third.ensures

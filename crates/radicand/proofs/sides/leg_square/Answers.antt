@@ -7,13 +7,13 @@ use Rattle.radicand.proofs.sides.leg_square.Goals as goal
 pub minus-requires : goal.minus-requires
 minus-requires c =
     let n = c.args.leg in
-    omega (arith, c.squared.ensures, no_larger c.args.hypotenuse n.significand n.below (units c.near-square.result) 0 c.near-square.ensures c.requires.longer)
+    omega (arith, c.squared.ensures, no_larger c.args.hypotenuse n.significand n.below (units c.near_square.result) 0 c.near_square.ensures c.requires.longer)
 
 pub returns : goal.returns
 unfolding Counts Held leg_square
 returns c =
     let n = c.args.leg in
-    let whole = leg_whole c.args.hypotenuse n.significand n.below (units c.near-square.result) (units c.minus.result) c.near-square.ensures c.requires.longer (c.minus.ensures ∙ c.squared.ensures) in
+    let whole = leg_whole c.args.hypotenuse n.significand n.below (units c.near_square.result) (units c.minus.result) c.near_square.ensures c.requires.longer (c.minus.ensures ∙ c.squared.ensures) in
     record {
       value = whole_units _ _ n.below whole;
       held = λ p h l. leg_held _ _ n.below p h whole l;

@@ -4,8 +4,8 @@ use Rattle.radicand.specs.Sides.{two_squares, three_squares}
 use Rattle.radicand.proofs.SideSquares.{square_bound, cut_at_most, sum_held, with_far}
 use Rattle.radicand.proofs.sides.three_squares.Goals as goal
 
-pub plus-cut-requires : goal.plus-cut-requires
-plus-cut-requires c = omega (arith, c.near-sum.ensures.bound, c.squared.ensures, cut_at_most _ _ _ _ c.far-square.ensures, square_bound c.args.third.significand c.requires.third)
+pub plus_cut-requires : goal.plus_cut-requires
+plus_cut-requires c = omega (arith, c.near_sum.ensures.bound, c.squared.ensures, cut_at_most _ _ _ _ c.far-square.ensures, square_bound c.args.third.significand c.requires.third)
 
 pub returns : goal.returns
 unfolding Counts Held two_squares three_squares
@@ -13,6 +13,6 @@ returns c =
     let n = c.args.other in
     let k = c.args.third in
     record {
-      value = with_far c.args.largest n.significand n.below k.significand k.below _ _ _ _ _ _ c.near-sum.ensures.value c.squared.ensures c.plus-cut.ensures.sum c.plus-cut.ensures.cut c.far-square.ensures;
-      held = λ p h. sum_held _ p (omega (arith, c.plus-cut.ensures.sum, c.near-sum.ensures.bound, c.squared.ensures, cut_at_most _ _ _ _ c.far-square.ensures, square_bound k.significand c.requires.third)) h;
+      value = with_far c.args.largest n.significand n.below k.significand k.below _ _ _ _ _ _ c.near_sum.ensures.value c.squared.ensures c.plus_cut.ensures.sum c.plus_cut.ensures.cut c.far-square.ensures;
+      held = λ p h. sum_held _ p (omega (arith, c.plus_cut.ensures.sum, c.near_sum.ensures.bound, c.squared.ensures, cut_at_most _ _ _ _ c.far-square.ensures, square_bound k.significand c.requires.third)) h;
     }

@@ -6,6 +6,6 @@ use Rattle.radicand.proofs.sides.two_squares.Goals as goal
 pub returns : goal.returns
 unfolding Counts Held
 returns c = record {
-  value = whole_units _ _ c.args.other.below c.near-sum.ensures.value;
-  held = λ p h. sum_held _ p (omega (arith, c.near-sum.ensures.bound)) h;
+  value = whole_units _ _ c.args.other.below c.near_sum.ensures.value;
+  held = λ p h. sum_held _ p (omega (arith, c.near_sum.ensures.bound)) h;
 }

@@ -2,17 +2,17 @@ use Rattle.std.proofs.Common.{◌≡◌, ℕ, ◌^◌, ◌<◌, length, get_or, 
 use Rattle.sheet.proofs.Numbers.{one_more, first_other, all_digits, digit_small, room}
 use Rattle.sheet.proofs.hex.number.Goals as goal
 
-pub returns-in-default : goal.returns-in-default
-returns-in-default c = record {
-  value = sym (first_other c.args.field.now c.loop-i.i c.loop-i.value c.loop-i.invariant c.loop-i-test.true c.args.place (sym c.in-default.ensures));
+pub returns-in_default : goal.returns-in_default
+returns-in_default c = record {
+  value = sym (first_other c.args.field.now c.loop-i.i c.loop-i.value c.loop-i.invariant c.loop-i-test.true c.args.place (sym c.in_default.ensures));
   bound = tt;
 }
 
-pub overflow-mul-value : goal.overflow-mul-value
-overflow-mul-value c = omega (arith, room c.args.field.now c.loop-i.i c.loop-i.value c.loop-i.invariant (omega (arith, c.loop-i-test.true, c.requires.few)))
+pub overflow_mul-value : goal.overflow_mul-value
+overflow_mul-value c = omega (arith, room c.args.field.now c.loop-i.i c.loop-i.value c.loop-i.invariant (omega (arith, c.loop-i-test.true, c.requires.few)))
 
-pub overflow-add-value : goal.overflow-add-value
-overflow-add-value c =
+pub overflow_add-value : goal.overflow_add-value
+overflow_add-value c =
     omega (
       arith,
       room c.args.field.now c.loop-i.i c.loop-i.value c.loop-i.invariant (omega (arith, c.loop-i-test.true, c.requires.few)),

@@ -19,8 +19,8 @@ use Rattle.sides.proofs.LowerSides.{largest_short, largest_full, largest_bits, l
 use Rattle.sides.proofs.Posing.{poses}
 use Rattle.sides.proofs.pose.pose_leg.Goals as goal
 
-pub leg-head-head-requires : goal.leg-head-head-requires
-leg-head-head-requires c =
+pub leg_head-head-requires : goal.leg_head-head-requires
+leg_head-head-requires c =
     let s = c.args.hypotenuse in
     let t = c.args.leg in
     let l = c.below-lower.result in
@@ -44,16 +44,16 @@ difference-radicand-requires c =
     let t = c.args.leg in
     let l = c.below-lower.result in
     let e = c.below-lower.ensures in
-    let h = c.leg-head-head.result in
+    let h = c.leg_head-head.result in
     let some : 0 < side_units s = omega (arith, c.requires.shorter) in
     record {
       hypotenuse = largest_short s;
       leg = lower_short s t l.significand l.below e.significand e.below;
       near = lower_close s t l.significand l.below e.significand e.below some c.requires.near;
       longer = lower_shorter s t l.significand l.below e.significand e.below c.requires.shorter;
-      least = c.leg-head-head.ensures.least;
-      most = c.leg-head-head.ensures.places;
-      held = fits s.significand l.significand l.below h.word h.places c.leg-head-head.ensures.heads.most c.leg-head-head.ensures.near;
+      least = c.leg_head-head.ensures.least;
+      most = c.leg_head-head.ensures.places;
+      held = fits s.significand l.significand l.below h.word h.places c.leg_head-head.ensures.heads.most c.leg_head-head.ensures.near;
     }
 
 stands_as : (r : Radicand) (m n d places : ℕ) → Stands r (head_scaled (leg_square m n d) places) (denominator d) → Stands r (leg_exact m n d * 4 ^ (23 + places)) (4 ^ (52 + d))
@@ -70,10 +70,10 @@ returns c =
     let n = l.significand in
     let d = l.below in
     let some : 0 < side_units s = omega (arith, c.requires.shorter) in
-    let head = c.leg-head-head.ensures in
-    subst (Poses (head_difference (side_units s) (side_units t)) (squares_apart (side_units s) (side_units t)) (side_units s)) (sym c.with-head.ensures)
+    let head = c.leg_head-head.ensures in
+    subst (Poses (head_difference (side_units s) (side_units t)) (squares_apart (side_units s) (side_units t)) (side_units s)) (sym c.with_head.ensures)
     (poses (head_difference (side_units s) (side_units t)) (leg_radicand m n d) (squares_apart (side_units s) (side_units t)) (side_units s)
-    (leg_exact m n d) (52 + d) s.bits c.leg-head-head.result c.difference-radicand.result
+    (leg_exact m n d) (52 + d) s.bits c.leg_head-head.result c.difference-radicand.result
     (leg_sum s t n d e.significand e.below some (le_of_lt c.requires.shorter)) s.sized.1 (leg_scale s t n d e.significand e.below c.requires.shorter)
-    (leg_fit m n d) head.heads head.near (stands_as c.difference-radicand.result m n d c.leg-head-head.result.places c.difference-radicand.ensures)
+    (leg_fit m n d) head.heads head.near (stands_as c.difference-radicand.result m n d c.leg_head-head.result.places c.difference-radicand.ensures)
     head.places.0 head.places.1 (largest_bits s some) s.sized.2)

@@ -19,8 +19,8 @@ use Rattle.sides.proofs.LowerSides.{largest_short, largest_full, largest_bits, l
 use Rattle.sides.proofs.Posing.{poses, sum_stands, regroup}
 use Rattle.sides.proofs.pose.pose_three.Goals as goal
 
-pub three-head-head-requires : goal.three-head-head-requires
-three-head-head-requires c =
+pub three_head-head-requires : goal.three_head-head-requires
+three_head-head-requires c =
     let s = c.args.sides.first in
     let t = c.args.sides.second in
     let l = c.below-second.result in
@@ -33,8 +33,8 @@ three-head-head-requires c =
       third-close = lower_close s c.args.sides.third c.below-third.result.significand c.below-third.result.below c.below-third.ensures.significand c.below-third.ensures.below c.requires.some c.requires.third;
     }
 
-pub sum-radicand-radicand-requires : goal.sum-radicand-radicand-requires
-sum-radicand-radicand-requires c =
+pub sum_radicand-radicand-requires : goal.sum_radicand-radicand-requires
+sum_radicand-radicand-requires c =
     let s = c.args.sides.first in
     let t = c.args.sides.second in
     let r = c.args.sides.third in
@@ -47,8 +47,8 @@ sum-radicand-radicand-requires c =
       other = lower_short s t l.significand l.below e.significand e.below;
       third = lower_short s r k.significand k.below f.significand f.below;
       near = lower_close s t l.significand l.below e.significand e.below c.requires.some c.requires.near;
-      least = c.three-head-head.ensures.places.0;
-      most = c.three-head-head.ensures.places.1;
+      least = c.three_head-head.ensures.places.0;
+      most = c.three_head-head.ensures.places.1;
     }
 
 pub returns : goal.returns
@@ -62,13 +62,13 @@ returns c =
     let k = c.below-third.result in
     let f = c.below-third.ensures in
     let m = s.significand in
-    let head = c.three-head-head.ensures in
+    let head = c.three_head-head.ensures in
     let third : side_units r ≤ side_units s = le_trans sides.order.1 sides.order.0 in
-    subst (Poses (sum_in_order (ordered_units sides)) (squares (ordered_units sides)) (side_units s)) (sym c.with-head.ensures)
+    subst (Poses (sum_in_order (ordered_units sides)) (squares (ordered_units sides)) (side_units s)) (sym c.with_head.ensures)
     (poses (sum_in_order (ordered_units sides)) (three_radicand m l.significand l.below k.significand k.below) (squares (ordered_units sides)) (side_units s)
-    (three_exact m l.significand l.below k.significand k.below) (52 + (l.below + k.below)) s.bits c.three-head-head.result c.sum-radicand-radicand.result
+    (three_exact m l.significand l.below k.significand k.below) (52 + (l.below + k.below)) s.bits c.three_head-head.result c.sum_radicand-radicand.result
     (three_sum s t r l.significand l.below k.significand k.below e.significand e.below f.significand f.below c.requires.some sides.order.0 third c.requires.near c.requires.third)
     s.sized.1 (three_scale s t r l.significand l.below k.significand k.below e.significand e.below f.significand f.below c.requires.some sides.order.0 third)
     (three_fit m l.significand l.below k.significand k.below) head.heads (regroup m l.significand l.below k.significand k.below _ _ head.near)
-    (sum_stands c.sum-radicand-radicand.result m l.significand l.below k.significand k.below c.three-head-head.result.places c.sum-radicand-radicand.ensures)
-    head.places.0 (let h : c.three-head-head.result.places ≤ 57 = omega (arith, head.places) in h) (largest_bits s c.requires.some) s.sized.2)
+    (sum_stands c.sum_radicand-radicand.result m l.significand l.below k.significand k.below c.three_head-head.result.places c.sum_radicand-radicand.ensures)
+    head.places.0 (let h : c.three_head-head.result.places ≤ 57 = omega (arith, head.places) in h) (largest_bits s c.requires.some) s.sized.2)

@@ -24,5 +24,5 @@ without_third r m n d k e places z s =
 
 pub returns-then-third-eq0 : goal.returns-then-third-eq0
 returns-then-third-eq0 c =
-    without_third c.sum-of-two.result c.args.largest c.args.second.significand c.args.second.below c.args.third.significand c.args.third.below c.args.places
-    c.if-third-eq0.true c.sum-of-two.ensures
+    without_third c.sum_of_two.result c.args.largest c.args.second.significand c.args.second.below c.args.third.significand c.args.third.below c.args.places
+    c.if-third-eq0.true c.sum_of_two.ensures

@@ -5,8 +5,8 @@ use Rattle.solver.specs.Log.{requests_of}
 use Rattle.solver.proofs.Extensions.{logs_none, logs_more, requests_next}
 use Rattle.solver.proofs.session.entries.Goals as goal
 
-pub returns-in-err-push : goal.returns-in-err-push
-returns-in-err-push g c = record {
+pub returns-in_err-push : goal.returns-in_err-push
+returns-in_err-push g c = record {
   log = IfOk-from_err c.from-residual.result _ c.from-residual.ensures.0;
   source = c.entry.ensures.log.same_source ∙ c.loop-request.invariant.0.same_source;
 }
@@ -18,7 +18,7 @@ loop-request-init g c =
 
 pub loop-request-preserved : goal.loop-request-preserved
 loop-request-preserved g c =
-    let pushed = rw c.in-ok-push.was at c.push.ensures.items in
+    let pushed = rw c.in_ok-push.was at c.push.ensures.items in
     let entries = vec_items c.loop-request.log in
     let more = vec_items c.push.new.self in
     let entry = c.entry.result in (

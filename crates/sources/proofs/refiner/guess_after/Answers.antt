@@ -11,4 +11,4 @@ loop-step-preserved c =
     let l = c.loop-step in
     let e = c.step-guess.ensures in
     let least = guess_least c.args.word l.guess (record { least = c.requires.word; most = c.ranges.word.fits }) l.invariant.1 in
-    (e ∙ repeated_more l.-step (refined_guess c.args.word) c.args.proposal l.guess l.invariant.0, omega (arith, e, least), omega (arith, e))
+    (e ∙ repeated_more l._step (refined_guess c.args.word) c.args.proposal l.guess l.invariant.0, omega (arith, e, least), omega (arith, e))

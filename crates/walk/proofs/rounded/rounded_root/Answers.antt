@@ -3,10 +3,10 @@ use Rattle.radicand.specs.Stands.{radicand_floor}
 use Rattle.walk.proofs.RoundedRoots.{residual_small, longer, drops_one, drops_are, rounds_to}
 use Rattle.walk.proofs.rounded.rounded_root.Goals as goal
 
-pub invariant-of-floor : goal.invariant-of-floor
-invariant-of-floor c =
+pub invariant_of-floor : goal.invariant_of-floor
+invariant_of-floor c =
     let w = c.walk-walked in
-    (residual_small (radicand_floor c.args.radicand) w.result.root w.result.residual w.ensures.root w.ensures.residual, tt)
+    record { floor = residual_small (radicand_floor c.args.radicand) w.result.root w.result.residual w.ensures.root w.ensures.residual }
 
 pub located-requires : goal.located-requires
 located-requires c =
@@ -15,7 +15,7 @@ located-requires c =
     let l = longer c.args.radicand c.args.proposal w.result t c.requires.proposal c.requires.bits w.ensures.root w.ensures.residual c.next-longer.ensures.residual in
     record {
       root = omega (arith, l.most);
-      dropped = drops_one c.args.radicand t.root t.residual l c.args.precision c.args.least c.bits-to-drop-dropped.result c.requires.precision.1 c.bits-to-drop-dropped.ensures;
+      dropped = drops_one c.args.radicand t.root t.residual l c.args.precision c.args.least c.bits_to_drop-dropped.result c.requires.precision.1 c.bits_to_drop-dropped.ensures;
     }
 
 pub nearest-significand-requires : goal.nearest-significand-requires
@@ -23,7 +23,7 @@ nearest-significand-requires c =
     let w = c.walk-walked in
     let t = c.next-longer.result in
     let l = longer c.args.radicand c.args.proposal w.result t c.requires.proposal c.requires.bits w.ensures.root w.ensures.residual c.next-longer.ensures.residual in
-    omega (arith, l.most, c.located.ensures.floor, div-le_self t.root (2 ^ c.bits-to-drop-dropped.result))
+    omega (arith, l.most, c.located.ensures.floor, div-le_self t.root (2 ^ c.bits_to_drop-dropped.result))
 
 pub returns : goal.returns
 returns c =
@@ -32,8 +32,8 @@ returns c =
     let l = longer c.args.radicand c.args.proposal w.result t c.requires.proposal c.requires.bits w.ensures.root w.ensures.residual c.next-longer.ensures.residual in
     record {
       count = omega (arith, w.ensures);
-      dropped = drops_are c.args.radicand t.root t.residual l c.args.precision c.args.least c.bits-to-drop-dropped.result c.requires.precision.1 c.bits-to-drop-dropped.ensures;
+      dropped = drops_are c.args.radicand t.root t.residual l c.args.precision c.args.least c.bits_to_drop-dropped.result c.requires.precision.1 c.bits_to_drop-dropped.ensures;
       length =
-          rounds_to c.args.radicand t.root t.residual c.args.precision c.args.least c.bits-to-drop-dropped.result c.nearest-significand.result c.without-carry.result c.is-exact-exact.result c.located.result
-          l c.requires.precision.0 c.requires.precision.1 c.bits-to-drop-dropped.ensures c.is-exact-exact.ensures c.located.ensures.located c.nearest-significand.ensures c.without-carry.ensures;
+          rounds_to c.args.radicand t.root t.residual c.args.precision c.args.least c.bits_to_drop-dropped.result c.nearest-significand.result c.without_carry.result c.is_exact-exact.result c.located.result
+          l c.requires.precision.0 c.requires.precision.1 c.bits_to_drop-dropped.ensures c.is_exact-exact.ensures c.located.ensures.located c.nearest-significand.ensures c.without_carry.ensures;
     }

@@ -1,4 +1,4 @@
-use Rattle.std.proofs.Common.{◌≡◌, ◌-◌, arith, eq-eqb, le-leb, leb-true}
+use Rattle.std.proofs.Common.{◌-◌, arith, eq-eqb, le-leb, leb-true}
 use lib.Count.{count_leading_zeros}
 use Rattle.exact.proofs.Bits.{bits_are, short_of, bits_most, full_of, bits_least}
 use Rattle.exact.proofs.form.Form.fits.Goals as goal

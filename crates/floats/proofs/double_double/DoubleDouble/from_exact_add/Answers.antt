@@ -3,5 +3,5 @@ use Rattle.floats.proofs.double_double.DoubleDouble.from_exact_add.Goals as goal
 
 pub returns : goal.returns
 returns c =
-    let s = c.sum-and-loss-of-b in
-    ordered_pair c.args.a c.args.b s.result.hi s.result.lo c.well-formed.0.1 c.well-formed.1.0.1 c.requires.first c.requires.second s.ensures.high s.ensures.low c.requires.ordered
+    let s = c.sum_and_loss_of_b in
+    ordered_pair c.args.a c.args.b s.result.hi s.result.lo c.well_formed.0.1 c.well_formed.1.0.1 c.requires.first c.requires.second s.ensures.high s.ensures.low c.requires.ordered

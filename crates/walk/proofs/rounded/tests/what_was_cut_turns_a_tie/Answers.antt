@@ -2,5 +2,5 @@ use Rattle.std.proofs.Common.{◌+◌, ◌^◌, lit<, lit≤}
 use Rattle.walk.proofs.Walks.{starts_near}
 use Rattle.walk.proofs.rounded.tests.what_was_cut_turns_a_tie.Goals as goal
 
-pub rounded-root-requires : goal.rounded-root-requires
-rounded-root-requires c = record { proposal = starts_near _ _ (2 ^ 53 + 1) (lit≤ tt) (lit< tt) (lit≤ tt) (lit< tt) (lit≤ tt); bits = lit< tt; precision = (lit≤ tt, lit≤ tt) }
+pub rounded_root-requires : goal.rounded_root-requires
+rounded_root-requires c = record { proposal = starts_near _ _ (2 ^ 53 + 1) (lit≤ tt) (lit< tt) (lit≤ tt) (lit< tt) (lit≤ tt); bits = lit< tt; precision = (lit≤ tt, lit≤ tt) }
