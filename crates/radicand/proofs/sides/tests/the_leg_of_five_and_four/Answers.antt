@@ -4,4 +4,4 @@ use Rattle.radicand.proofs.sides.tests.the_leg_of_five_and_four.Goals as goal
 
 pub difference-radicand-requires : goal.difference-radicand-requires
 unfolding leg_square head_scaled denominator
-difference-radicand-requires c = record { hypotenuse = lit< tt; leg = lit< tt; near = lit≤ tt; longer = lit< tt; least = lit≤ tt; most = lit≤ tt; held = lit< tt }
+difference-radicand-requires g c = record { hypotenuse = lit< tt; leg = lit< tt; near = lit≤ tt; longer = lit< tt; least = lit≤ tt; most = lit≤ tt; held = lit< tt }

@@ -3,4 +3,4 @@ use Rattle.walk.proofs.Walks.{starts_near}
 use Rattle.walk.proofs.floor.tests.one_bit_more.Goals as goal
 
 pub walk-walked-requires : goal.walk-walked-requires
-walk-walked-requires c = starts_near _ _ (2 ^ 54) (lit≤ tt) (lit< tt) (lit≤ tt) (lit< tt) (lit≤ tt)
+walk-walked-requires g c = starts_near _ _ (2 ^ 54) (lit≤ tt) (lit< tt) (lit≤ tt) (lit< tt) (lit≤ tt)

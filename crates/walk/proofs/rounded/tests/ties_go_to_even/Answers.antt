@@ -3,7 +3,7 @@ use Rattle.walk.proofs.Walks.{starts_near}
 use Rattle.walk.proofs.rounded.tests.ties_go_to_even.Goals as goal
 
 pub rounded_root-requires : goal.rounded_root-requires
-rounded_root-requires c = record { proposal = starts_near _ _ (2 ^ 53 + 1) (lit≤ tt) (lit< tt) (lit≤ tt) (lit< tt) (lit≤ tt); bits = lit< tt; precision = (lit≤ tt, lit≤ tt) }
+rounded_root-requires g c = record { proposal = starts_near _ _ (2 ^ 53 + 1) (lit≤ tt) (lit< tt) (lit≤ tt) (lit< tt) (lit≤ tt); bits = lit< tt; precision = (lit≤ tt, lit≤ tt) }
 
 pub rounded_root-requires-2 : goal.rounded_root-requires-2
-rounded_root-requires-2 c = record { proposal = starts_near _ _ (2 ^ 53 + 3) (lit≤ tt) (lit< tt) (lit≤ tt) (lit< tt) (lit≤ tt); bits = lit< tt; precision = (lit≤ tt, lit≤ tt) }
+rounded_root-requires-2 g c = record { proposal = starts_near _ _ (2 ^ 53 + 3) (lit≤ tt) (lit< tt) (lit≤ tt) (lit< tt) (lit≤ tt); bits = lit< tt; precision = (lit≤ tt, lit≤ tt) }

@@ -3,4 +3,4 @@ use Rattle.walk.proofs.Walks.{starts_near}
 use Rattle.walk.proofs.rounded.tests.what_was_cut_turns_a_tie.Goals as goal
 
 pub rounded_root-requires : goal.rounded_root-requires
-rounded_root-requires c = record { proposal = starts_near _ _ (2 ^ 53 + 1) (lit≤ tt) (lit< tt) (lit≤ tt) (lit< tt) (lit≤ tt); bits = lit< tt; precision = (lit≤ tt, lit≤ tt) }
+rounded_root-requires g c = record { proposal = starts_near _ _ (2 ^ 53 + 1) (lit≤ tt) (lit< tt) (lit≤ tt) (lit< tt) (lit≤ tt); bits = lit< tt; precision = (lit≤ tt, lit≤ tt) }
