@@ -227,7 +227,7 @@ module _ {P : Type 0} (encoding : Encoding P) where
           go true e = sym (le-leb (magnitude x) (magnitude y) (omega (arith, eqb-true (magnitude x) (magnitude y) e)))
           go false e =
               let d : magnitude x ≡ magnitude y → ⊥ = eqb-false (magnitude x) (magnitude y) e in
-              sym (lt-leb (magnitude x) (magnitude y) (lt_unless (magnitude y) (magnitude x) (λ (h : magnitude x ≤ magnitude y). d (omega (arith, l.not-shorter)))))
+              sym (lt-leb (magnitude x) (magnitude y) (lt_unless (magnitude y) (magnitude x) (λ (h : magnitude x ≤ magnitude y). d (omega (arith, l.not_shorter)))))
 
 -- what a lawful form reads is of the form
 pub reads_of_form : {P : Type 0} (encoding : Encoding P) → Lawful encoding → (pattern : P) (r : Reading) → r ≡ encoding.reading pattern → OfForm encoding.form r

@@ -55,7 +55,7 @@ module _ {P : Type 0} (encoding : Encoding P) (law : Lawful encoding) (x y : Rea
           let q : u ≡ v = eqb-true u v z in
           let n : u * u - v * v ≡ 0 = omega (arith, ap (λ (z : ℕ). z * z) q) in
           sym (same_some (zero_pattern encoding) p e) ∙ zero_root encoding law ∙ ap (root_pattern encoding) (sym n)
-      go false true z f e = sym (same_some (magnitude_pattern encoding x) p e) ∙ far_leg l.hypotenuse f l.not-shorter
+      go false true z f e = sym (same_some (magnitude_pattern encoding x) p e) ∙ far_leg l.hypotenuse f l.not_shorter
       go false false z f e = absurd (no_some p (sym e))
 
   headed_leg : (a : Sided encoding.form u) (b : Sided encoding.form v) → v < u → is_far u v ≡ false → NearHead (head_difference u v) (squares_apart u v) u
@@ -73,7 +73,7 @@ module _ {P : Type 0} (encoding : Encoding P) (law : Lawful encoding) (x y : Rea
         let l = leg_values encoding x y X Y s in
         let b = none_of_two (zero_pattern encoding) (magnitude_pattern encoding x) (eqb u v) (is_far u v) e in
         let d : u ≡ v → ⊥ = eqb-false u v b.0 in
-        let o : v < u = lt_unless v u (λ (h : u ≤ v). d (omega (arith, l.not-shorter))) in
+        let o : v < u = lt_unless v u (λ (h : u ≤ v). d (omega (arith, l.not_shorter))) in
         headed_leg (reading_sided encoding.form law.in_range x l.hypotenuse) (reading_sided encoding.form law.in_range y l.other) o b.1;
   }
 

@@ -101,7 +101,7 @@ module _ {F R P : Type 0} (encoding : Encoding P) (meaning : R → Source) where
   whole_log solver allowance s t left log sealed h l e =
       let is = just_sealed_is meaning solver allowance s sealed in
       let same : t.source ≡ solver.source = l.same_source ∙ ap (λ (z : Sealed F R). z.source) is in
-      let allowed : t.allowance ≡ allowance = l.same-allowance ∙ ap (λ (z : Sealed F R). z.allowance) is in
+      let allowed : t.allowance ≡ allowance = l.same_allowance ∙ ap (λ (z : Sealed F R). z.allowance) is in
       rw (e, ← same, ← allowed) (l.goes_on [] h)
 
 pub requests_next : {P : Type 0} (entries more : List (Entry P)) (entry : Entry P) (request : Request P) (i : ℕ) (requests : List (Request P))

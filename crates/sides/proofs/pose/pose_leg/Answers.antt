@@ -76,4 +76,4 @@ returns c =
     (leg_exact m n d) (52 + d) s.bits c.leg_head-head.result c.difference-radicand.result
     (leg_sum s t n d e.significand e.below some (le_of_lt c.requires.shorter)) s.sized.1 (leg_scale s t n d e.significand e.below c.requires.shorter)
     (leg_fit m n d) head.heads head.near (stands_as c.difference-radicand.result m n d c.leg_head-head.result.places c.difference-radicand.ensures)
-    head.places.0 head.places.1 (largest_bits s some) s.sized.2)
+    head.least head.places (largest_bits s some) s.sized.2)

@@ -30,7 +30,7 @@ three_head-head-requires c =
       second = lower_full s t l.significand l.below e.significand e.below c.requires.some c.requires.near;
       close = lower_close s t l.significand l.below e.significand e.below c.requires.some c.requires.near;
       third = lower_full s c.args.sides.third c.below-third.result.significand c.below-third.result.below c.below-third.ensures.significand c.below-third.ensures.below c.requires.some c.requires.third;
-      third-close = lower_close s c.args.sides.third c.below-third.result.significand c.below-third.result.below c.below-third.ensures.significand c.below-third.ensures.below c.requires.some c.requires.third;
+      third_close = lower_close s c.args.sides.third c.below-third.result.significand c.below-third.result.below c.below-third.ensures.significand c.below-third.ensures.below c.requires.some c.requires.third;
     }
 
 pub sum_radicand-radicand-requires : goal.sum_radicand-radicand-requires
