@@ -13,6 +13,7 @@ ghost use Rattle.lengths.specs.LengthOf.{length_of};
 ghost use Rattle.lengths.specs.Right.{AnswersCall};
 
 use float_source::FloatSource;
+use forms::binary::{Binary32, Binary64};
 use forms::number_form::NumberForm;
 use lengths::call::Call;
 use lengths::length::length_of;
@@ -23,7 +24,7 @@ pub extern "C" fn f_hypot(x: u64, y: u64) -> u64
     ensures value { result ≡ (length_of binary64 exact_source (Hypot x y)).pattern }
     ensures nearest { AnswersCall binary64 (Hypot x y) result }
 {
-    pattern::<forms::binary::Binary64>(Call::Hypot { x, y })
+    pattern::<Binary64>(Call::Hypot { x, y })
 }
 
 /// The other leg of a hypotenuse and a leg, in binary64.
@@ -32,7 +33,7 @@ pub extern "C" fn f_cathetus(hypotenuse: u64, leg: u64) -> u64
     ensures value { result ≡ (length_of binary64 exact_source (Cathetus hypotenuse leg)).pattern }
     ensures nearest { AnswersCall binary64 (Cathetus hypotenuse leg) result }
 {
-    pattern::<forms::binary::Binary64>(Call::Cathetus { hypotenuse, leg })
+    pattern::<Binary64>(Call::Cathetus { hypotenuse, leg })
 }
 
 /// The hypotenuse over two legs, in binary32.
@@ -41,7 +42,7 @@ pub extern "C" fn f_hypotf(x: u32, y: u32) -> u32
     ensures value { result ≡ (length_of binary32 exact_source (Hypot x y)).pattern }
     ensures nearest { AnswersCall binary32 (Hypot x y) result }
 {
-    pattern::<forms::binary::Binary32>(Call::Hypot { x, y })
+    pattern::<Binary32>(Call::Hypot { x, y })
 }
 
 /// The other leg of a hypotenuse and a leg, in binary32.
@@ -50,7 +51,7 @@ pub extern "C" fn f_cathetusf(hypotenuse: u32, leg: u32) -> u32
     ensures value { result ≡ (length_of binary32 exact_source (Cathetus hypotenuse leg)).pattern }
     ensures nearest { AnswersCall binary32 (Cathetus hypotenuse leg) result }
 {
-    pattern::<forms::binary::Binary32>(Call::Cathetus { hypotenuse, leg })
+    pattern::<Binary32>(Call::Cathetus { hypotenuse, leg })
 }
 
 /// The resultant of three axes, in binary32.
@@ -59,7 +60,7 @@ pub extern "C" fn f_hypot3f(x: u32, y: u32, z: u32) -> u32
     ensures value { result ≡ (length_of binary32 exact_source (ThreeSides x y z)).pattern }
     ensures nearest { AnswersCall binary32 (ThreeSides x y z) result }
 {
-    pattern::<forms::binary::Binary32>(Call::ThreeSides { x, y, z })
+    pattern::<Binary32>(Call::ThreeSides { x, y, z })
 }
 
 // The pattern of a call, in any form.

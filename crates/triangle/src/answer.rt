@@ -48,32 +48,21 @@ pub fn written_or_infinity<F: NumberForm>(significand: u64, exponent: u32) -> F:
 #[cfg(test)]
 mod tests {
     use super::*;
+    use forms::binary::{Binary32, Binary64};
 
     #[test]
     fn small_radicands(rt: HostRuntime) {
         // two smallest subnormals have a root between one and two units
-        assert_eq!(rt; root_pattern::<forms::binary::Binary64>(2), 1);
-        assert_eq!(rt; root_pattern::<forms::binary::Binary64>(0), 0);
+        assert_eq!(rt; root_pattern::<Binary64>(2), 1);
+        assert_eq!(rt; root_pattern::<Binary64>(0), 0);
     }
 
     #[test]
     fn ties_of_24_bits(rt: HostRuntime) {
         // the roots 2^25 + 2 and 2^25 + 6 lie halfway between multiples of four
-        assert_eq!(rt;
-            root_pattern::<forms::binary::Binary32>(0x4_0000_0800_0004),
-            0x0180_0000
-        );
-        assert_eq!(rt;
-            root_pattern::<forms::binary::Binary32>(0x4_0000_0800_0005),
-            0x0180_0001
-        );
-        assert_eq!(rt;
-            root_pattern::<forms::binary::Binary32>(0x4_0000_1800_0024),
-            0x0180_0002
-        );
-        assert_eq!(rt;
-            root_pattern::<forms::binary::Binary32>(0x4_0000_1800_0023),
-            0x0180_0001
-        );
+        assert_eq!(rt; root_pattern::<Binary32>(0x4_0000_0800_0004), 0x0180_0000);
+        assert_eq!(rt; root_pattern::<Binary32>(0x4_0000_0800_0005), 0x0180_0001);
+        assert_eq!(rt; root_pattern::<Binary32>(0x4_0000_1800_0024), 0x0180_0002);
+        assert_eq!(rt; root_pattern::<Binary32>(0x4_0000_1800_0023), 0x0180_0001);
     }
 }
