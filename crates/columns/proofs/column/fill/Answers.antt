@@ -33,14 +33,14 @@ returns-in_err-entry g c =
     let did = c.entry.ensures in
     let refused = c.in_err-entry.field-0.0 in
     let why = refused_at c.loop-i.i (call_result encoding meaning c.loop-i.solver (call_of operation x y)) refused c.in_err-entry.ensures.value in
-    let p = err_from_is_err_and c.from-residual.result c.from-residual.ensures.1 in
-    let is = stopped c.from-residual.result p.0 refused (record { place = c.loop-i.i; refusal = refused.refusal }) p.1 p.2 why.1 in
+    let p = err_from_is_err_and c.from_residual.result c.from_residual.ensures.1 in
+    let is = stopped c.from_residual.result p.0 refused (record { place = c.loop-i.i; refusal = refused.refusal }) p.1 p.2 why.1 in
     let stop =
     rest_stop encoding meaning operation c.loop-i.i c.loop-i.solver c.entry.new.solver c.args.xs.now c.args.ys.now c.loop-i.lengths c.entry.new.lengths c.loop-i.counts c.entry.new.counts x y
-    did.lengths did.counts did.after c.index-xs-i.is c.index-ys-i.is (omega arith) (omega arith) (omega arith) (omega arith) refused.refusal why.0 c.from-residual.result is (entries encoding meaning operation 0 c.args.solver.now c.args.xs.now c.args.ys.now c.args.lengths.now c.args.counts.now) c.loop-i.invariant.0 in
+    did.lengths did.counts did.after c.index-xs-i.is c.index-ys-i.is (omega arith) (omega arith) (omega arith) (omega arith) refused.refusal why.0 c.from_residual.result is (entries encoding meaning operation 0 c.args.solver.now c.args.xs.now c.args.ys.now c.args.lengths.now c.args.counts.now) c.loop-i.invariant.0 in
     let logs =
     logs_stop encoding meaning operation c.args.solver.now c.loop-i.solver c.entry.new.solver c.loop-i.i c.args.xs.now c.args.ys.now c.loop-i.lengths c.entry.new.lengths c.loop-i.counts c.entry.new.counts x y
-    did.lengths did.counts c.index-xs-i.is c.index-ys-i.is (omega arith) (omega arith) (omega arith) (omega arith) c.loop-i.invariant.1 did.log refused.refusal why.0 c.from-residual.result is in
+    did.lengths did.counts c.index-xs-i.is c.index-ys-i.is (omega arith) (omega arith) (omega arith) (omega arith) c.loop-i.invariant.1 did.log refused.refusal why.0 c.from_residual.result is in
     record { value = stop; log = logs }
 
 pub returns : goal.returns

@@ -7,7 +7,7 @@ use Rattle.solver.proofs.session.entries.Goals as goal
 
 pub returns-in_err-push : goal.returns-in_err-push
 returns-in_err-push g c = record {
-  log = IfOk-from_err c.from-residual.result _ c.from-residual.ensures.0;
+  log = IfOk-from_err c.from_residual.result _ c.from_residual.ensures.0;
   source = c.entry.ensures.log.same_source ∙ c.loop-request.invariant.0.same_source;
 }
 
