@@ -5,17 +5,20 @@
 //! that is known to be wrong, and has to differ. Lines that begin with `#` are headings.
 #![tactic(auto)]
 
-use commands::command::{Command, Request};
+use commands::command::Command;
 use commands::line_buffer::LineBuffer;
 use commands::parse::parse;
 use commands::reply::Reply;
+use forms::binary::{Binary32, Binary64};
+use forms::thousandths::Thousandths;
 use lengths::length::length_of;
+use solver::log::Request;
 use sources::digit::DigitSource;
 use std::io::{BufRead, BufReader, Write};
 use std::{fmt, io};
 
 // What became of the vectors so far.
-#[derive(Clone, Copy)]
+#[derive(Clone, Copy, PartialEq)]
 struct Tally {
     right: u64,
     differing: u64,
@@ -26,19 +29,16 @@ struct Tally {
 // The answer to a call's line, or nothing where it asks for no length.
 fn answer(line: &[u8]) -> Option<LineBuffer> {
     match parse(line) {
-        Ok(Command::Binary64(Request::Length(call))) => {
-            let length = length_of::<forms::binary::Binary64, DigitSource>(&DigitSource, call);
+        Ok(Command::Binary64(Request::Length { call })) => {
+            let length = length_of::<Binary64, DigitSource>(&DigitSource, call);
             Some(Reply::length(length).line())
         }
-        Ok(Command::Binary32(Request::Length(call))) => {
-            let length = length_of::<forms::binary::Binary32, DigitSource>(&DigitSource, call);
+        Ok(Command::Binary32(Request::Length { call })) => {
+            let length = length_of::<Binary32, DigitSource>(&DigitSource, call);
             Some(Reply::length(length).line())
         }
-        Ok(Command::Thousandths(Request::Length(call))) => {
-            let length = length_of::<forms::thousandths::Thousandths, DigitSource>(
-                &DigitSource,
-                call,
-            );
+        Ok(Command::Thousandths(Request::Length { call })) => {
+            let length = length_of::<Thousandths, DigitSource>(&DigitSource, call);
             Some(Reply::length(length).line())
         }
         _ => None,
@@ -144,7 +144,9 @@ fn run(rt: &HostRuntime) -> io::Result<()> {
             break;
         }
         if call.starts_with(b"#") {
-            println!(rt; "{section}")?;
+            if section != Tally::none() {
+                println!(rt; "{section}")?;
+            }
             print_heading(rt, &call)?;
             total = total.plus(section);
             section = Tally::none();
