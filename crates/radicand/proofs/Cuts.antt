@@ -1,5 +1,5 @@
 -- Numbers in limbs after several cuts: a far side, and a number in the scale of a head.
-use Rattle.std.proofs.Common.{◌≡◌, ℕ, ◌+◌, ◌-◌, ◌*◌, ◌^◌, ◌<◌, ◌≤◌, Bool, ◌||◌, ◌⊎◌, ap, subst, inl, inr, mul-le-mul_right, lt_of_not-le, arith, pow-add}
+use Rattle.std.proofs.Common.{◌≡◌, ℕ, ◌+◌, ◌-◌, ◌*◌, ◌^◌, ◌<◌, ◌≤◌, Bool, ◌||◌, ap, subst, inl, inr, mul-le-mul_right, lt_of_not-le, arith, pow-add}
 use native.Mathlib.Nat.{pow-le-pow_right}
 use Rattle.exact.proofs.Squares.{lt_or_le, four_pos}
 use Rattle.radicand.specs.Sides.{head_scaled, denominator}

@@ -1,5 +1,5 @@
 -- Powers of two and four between the limbs, the scale of a head, and the places of a side.
-use Rattle.std.proofs.Common.{◌≡◌, ℕ, ◌+◌, ◌-◌, ◌*◌, ◌^◌, ◌<◌, ◌≤◌, sym, ap, ◌∙◌, arith, pow-add}
+use Rattle.std.proofs.Common.{◌≡◌, ℕ, ◌+◌, ◌-◌, ◌*◌, ◌^◌, ◌≤◌, sym, ap, ◌∙◌, arith, pow-add}
 use Rattle.exact.proofs.Ulps.{four_is}
 
 -- the scale of a head and the units that are one in it

@@ -1,5 +1,5 @@
 -- Whole parts of fractions: what a cut keeps under a sum, a second cut, and another form of the fraction.
-use Rattle.std.proofs.Common.{◌≡◌, ℕ, zero, suc, ◌+◌, ◌-◌, ◌*◌, ◌/◌, ◌%◌, ◌<◌, ◌≤◌, Bool, false, ◌||◌, ◌⊎◌, sym, refl, ap, ◌∙◌, inl, inr, mul-le-mul_right, lt_of_not-le, le_of_mul-le-mul_right, mul-div_cancel, arith}
+use Rattle.std.proofs.Common.{◌≡◌, ℕ, zero, suc, ◌+◌, ◌-◌, ◌*◌, ◌/◌, ◌%◌, ◌<◌, ◌≤◌, Bool, false, ◌||◌, sym, refl, ap, ◌∙◌, inl, inr, mul-le-mul_right, lt_of_not-le, le_of_mul-le-mul_right, mul-div_cancel, arith}
 use native.Mathlib.Nat.{eq_of_mul-eq-mul_right}
 use borrow.Author.Tests.{clash}
 use Rattle.std.proofs.lemmas.Nat.{div-mul-add, mod-mul-add}

@@ -5,7 +5,6 @@ use native.Mathlib.Nat.{eq_of_mul-eq-mul_right, div-eq_of_lt}
 use borrow.Author.Tests.{eqb-false}
 use Rattle.std.proofs.lemmas.Nat.{one_shl, mod_below}
 use Rattle.exact.proofs.Squares.{squares_le, le_unless, lt_or_le, four_pos, four_two, two_half, two_le}
-use Rattle.walk.specs.declared.location.Half.{Half}
 use Rattle.walk.specs.declared.location.Half.TheVariants.{Below, At, Above}
 use Rattle.walk.specs.declared.location.Location.{Location}
 use Rattle.walk.specs.Location.{FloorToPlaces, Side, Located, located_at}

@@ -4,7 +4,6 @@ use Rattle.exact.specs.Length.{NearestWhole}
 use Rattle.exact.proofs.Squares.{four_pos}
 use Rattle.walk.specs.declared.location.Half.{Half}
 use Rattle.walk.specs.declared.location.Half.TheVariants.{Below, At, Above}
-use Rattle.walk.specs.declared.location.Location.{Location}
 use Rattle.walk.specs.Location.{Side, nearer, ChoiceIsNearest}
 
 -- the root of n lies from k on and below k + 1, in units whose square is x
