@@ -1,10 +1,9 @@
 -- The length of what is asked, by its plain cases or by its root; the sides in any order, and two sides as three.
-use Rattle.std.proofs.Common.{◌≡◌, ℕ, ◌+◌, ◌*◌, ◌<◌, ◌≤◌, Bool, true, false, cond, ◌&&◌, ◌||◌, eqb, leb, ◌⊎◌, List, [], ◌∷◌, Some, None, Option, sym, refl, ap, ◌∙◌, subst, inl, inr, arith}
+use Rattle.std.proofs.Common.{◌≡◌, ℕ, ◌+◌, ◌*◌, cond, ◌||◌, eqb, leb, ◌⊎◌, List, [], ◌∷◌, Some, None, Option, sym, refl, ap, ◌∙◌, subst, inl, inr}
 use Rattle.exact.specs.declared.form.Form.{Form}
 use Rattle.exact.specs.declared.length.Magnitude.{Magnitude}
 use Rattle.exact.specs.Value.{Value}
 use Rattle.forms.specs.declared.reading.Reading.{Reading}
-use Rattle.forms.specs.declared.reading.Reading.TheVariants.{Finite}
 use Rattle.forms.specs.Encoding.{Encoding, Lawful}
 use Rattle.sides.specs.declared.side.Side.{Side}
 use Rattle.sides.specs.declared.ordered.Ordered.{Ordered}
@@ -14,7 +13,6 @@ use Rattle.sides.specs.HeadSum.{sum_in_order, head_difference}
 use Rattle.sides.specs.Poses.{squares, squares_apart}
 use Rattle.sides.proofs.Descending.{squares_descending}
 use Rattle.sources.specs.Source.{Source}
-use Rattle.lengths.specs.declared.call.Measured.{Measured}
 use Rattle.triangle.specs.Outcome.{magnitude, sum_of_squares, hypot_outcome, leg_outcome}
 use Rattle.triangle.specs.Answer.{special_pattern}
 use Rattle.lengths.specs.Asked.{Asked, sum_of, difference_of, outcome, magnitudes, radicand, largest, head_of}

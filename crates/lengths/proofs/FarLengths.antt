@@ -1,8 +1,8 @@
 -- A side far below another moves the root by less than half a unit of the last place: the length is the longer side.
-use Rattle.std.proofs.Common.{◌≡◌, ℕ, zero, suc, ◌+◌, ◌-◌, ◌*◌, ◌%◌, ◌^◌, ◌<◌, ◌≤◌, ◌⊎◌, sym, refl, ap, ◌∙◌, subst, inl, inr, le_trans, lt_of_lt_of_le, lt_of_le_of_lt, mul-le-mul_right, eq-zero-or-pos, mul-le-mul, lt_of_mul-lt-mul_right, eq-or-lt_of_le, mul-le-mul_left, mul-lt-mul_of_pos_right, le_of_mul-le-mul_right, arith, pow_pos, pow-add}
+use Rattle.std.proofs.Common.{◌≡◌, ℕ, zero, suc, ◌+◌, ◌-◌, ◌*◌, ◌^◌, ◌<◌, ◌≤◌, ◌⊎◌, sym, refl, ap, ◌∙◌, subst, inl, inr, le_trans, lt_of_le_of_lt, mul-le-mul_right, eq-zero-or-pos, mul-le-mul, lt_of_mul-lt-mul_right, eq-or-lt_of_le, mul-le-mul_left, mul-lt-mul_of_pos_right, arith, pow_pos, pow-add}
 use Rattle.exact.specs.declared.form.Form.{Form}
 use Rattle.exact.specs.Value.{Value, InRange, units}
-use Rattle.exact.specs.Length.{Ulp, NearestWhole, Length, kept, carried}
+use Rattle.exact.specs.Length.{NearestWhole, Length, kept, carried}
 use Rattle.exact.proofs.Squares.{four_two, four_pos, two_le, two_half, square_at, le_unless}
 use Rattle.exact.proofs.Values.{value_is_length}
 use Rattle.head.proofs.Powers.{four_more}

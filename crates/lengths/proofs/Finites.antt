@@ -1,5 +1,5 @@
 -- The values of a form within the limits that sides have: at most 53 bits, and an exponent of at most 4,000.
-use Rattle.std.proofs.Common.{◌≡◌, ℕ, ◌^◌, ◌<◌, ◌≤◌, ℤ, pos, negsuc, ◌+ℤ◌, ◌≤ℤ◌, lt_of_lt_of_le, arith, pow_pos}
+use Rattle.std.proofs.Common.{ℕ, ◌^◌, ◌<◌, ◌≤◌, pos, negsuc, ◌+ℤ◌, ◌≤ℤ◌, lt_of_lt_of_le, arith, pow_pos}
 use Rattle.std.proofs.lemmas.Int.{ints}
 use Rattle.exact.specs.declared.form.Form.{Form}
 use Rattle.exact.specs.Value.{Value, InRange}

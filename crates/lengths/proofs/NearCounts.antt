@@ -1,10 +1,9 @@
 -- A count is the distance from the proposal for the one head word to the floor root, and at most 2 ^ grade + 4.
-use Rattle.std.proofs.Common.{◌≡◌, ℕ, ◌+◌, ◌-◌, ◌*◌, ◌/◌, ◌^◌, ◌<◌, ◌≤◌, sym, refl, ap, ◌∙◌, subst, arith}
+use Rattle.std.proofs.Common.{◌≡◌, ℕ, ◌+◌, ◌-◌, ◌*◌, ◌^◌, ◌≤◌, arith}
 use lib.Ieee.{Float, size}
 use Rattle.exact.specs.Root.{isqrt}
 use Rattle.exact.proofs.Roots.{isqrt_is}
 use Rattle.exact.proofs.Squares.{four_pos}
-use Rattle.head.specs.Head.{head_word, head_places}
 use Rattle.head.specs.Bound.{FloorRootOf}
 use Rattle.head.proofs.ComputedHeads.{head_computed}
 use Rattle.walk.specs.Walk.{distance}

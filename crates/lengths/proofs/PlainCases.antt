@@ -1,20 +1,19 @@
 -- Where nothing about the sides is special they are finite, and the plain cases of finite sides are told by the largest side and
 -- the next: the largest is zero, or the next is far. The pattern is then that of the largest side.
-use Rattle.std.proofs.Common.{◌≡◌, ℕ, ◌+◌, ◌*◌, ◌^◌, ◌<◌, ◌≤◌, max, Bool, true, false, cond, ◌&&◌, ◌||◌, eqb, ltb, leb, List, [], ◌∷◌, map, Some, None, Option, sym, refl, ap, ◌∙◌, subst, true≢false, arith, ltb-false, ltb-true, eq-eqb, ne_eqb, eqb-true, le-leb}
+use Rattle.std.proofs.Common.{◌≡◌, ℕ, ◌≤◌, max, Bool, true, false, cond, ◌&&◌, ◌||◌, eqb, ltb, leb, List, [], ◌∷◌, Some, None, Option, sym, refl, ap, ◌∙◌, true≢false, arith, ltb-false, ltb-true, eq-eqb, ne_eqb, eqb-true, le-leb}
 use borrow.Author.Tests.{eqb-false, lt-leb}
 use Rattle.exact.proofs.Squares.{lt_unless}
 use Rattle.exact.specs.declared.form.Form.{Form}
-use Rattle.exact.specs.Value.{Value, InRange, units}
+use Rattle.exact.specs.Value.{Value, units}
 use Rattle.exact.proofs.Values.{same_parts, value_normal, some_bits}
 use Rattle.forms.specs.declared.reading.Reading.{Reading}
 use Rattle.forms.specs.declared.reading.Reading.TheVariants.{Finite, Infinite, QuietNan, SignallingNan}
 use Rattle.forms.specs.Encoding.{Encoding, Lawful}
 use Rattle.sides.specs.declared.side.Side.{Side}
 use Rattle.sides.specs.declared.ordered.Ordered.{Ordered}
-use Rattle.sides.specs.Order.{side_units, descending, first, is_far, near}
+use Rattle.sides.specs.Order.{side_units, descending, first, is_far}
 use Rattle.sides.specs.Listed.{ordered_units}
-use Rattle.sides.specs.Poses.{squares}
-use Rattle.sides.proofs.Descending.{first_insert, squares_descending, far_too}
+use Rattle.sides.proofs.Descending.{first_insert, far_too}
 use Rattle.triangle.specs.Outcome.{Outcome, not_a_number, infinite, root_of, is_signalling, is_infinite, is_quiet, is_nan, some, magnitude, sum_of_squares, difference_of_squares, hypot_outcome, leg_outcome}
 use Rattle.triangle.specs.Answer.{special_pattern}
 use Rattle.lengths.specs.Asked.{sum_of, difference_of, magnitudes}

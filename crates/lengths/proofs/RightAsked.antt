@@ -1,32 +1,16 @@
 -- Every call's pattern answers for what it comes to, far sides included, and its count is the distance that it should be.
-use Rattle.std.proofs.Common.{◌≡◌, ℕ, ◌+◌, ◌-◌, ◌*◌, ◌^◌, ◌<◌, ◌≤◌, Bool, true, false, cond, ◌&&◌, ◌||◌, eqb, ltb, List, [], ◌∷◌, Some, None, Option, unwrap_or, sym, refl, ap, ◌∙◌, subst, true≢false, le_trans, mul-le-mul, arith, ltb-false, ltb-true, lt-ltb, eqb-true}
-use Rattle.std.proofs.lemmas.Nat.{mul-lt}
-use lib.Ieee.{Float}
-use borrow.Author.Tests.{eqb-false}
-use Rattle.exact.specs.Value.{Value, units}
-use Rattle.exact.specs.Length.{Length}
-use Rattle.exact.proofs.Squares.{lt_unless}
-use Rattle.exact.proofs.Values.{value_is_length}
-use Rattle.forms.specs.declared.reading.Reading.{Reading}
+use Rattle.std.proofs.Common.{◌≡◌, ℕ, ◌+◌, ◌^◌, ◌≤◌, Some, None, Option, sym, refl, ap, ◌∙◌, subst, arith}
 use Rattle.forms.specs.Encoding.{Encoding, Lawful}
 use Rattle.sources.specs.Source.{Source, Sound}
-use Rattle.sides.specs.declared.side.Side.{Side}
-use Rattle.sides.specs.Order.{side_units, descending, first, is_far, near}
-use Rattle.sides.specs.HeadSum.{sum_in_order, head_difference}
-use Rattle.sides.specs.Poses.{squares, squares_apart}
-use Rattle.sides.proofs.NearHeads.{NearHead, sum_near_head, leg_near_head}
+use Rattle.sides.proofs.NearHeads.{NearHead}
 use Rattle.lengths.specs.declared.call.Call.{Call}
-use Rattle.lengths.specs.declared.call.Call.TheVariants.{Hypot, Cathetus, ThreeSides}
-use Rattle.triangle.specs.Outcome.{Outcome, not_a_number, infinite, root_of, magnitude, sum_of_squares, difference_of_squares, hypot_outcome, leg_outcome}
-use Rattle.triangle.specs.Answer.{answer, root_pattern, special_pattern, Answers}
-use Rattle.lengths.specs.Asked.{Asked, sum_of, difference_of, asked, outcome, magnitudes, radicand, largest, head_of}
-use Rattle.lengths.specs.Plain.{all_zero, is_empty, others_far, longest_pattern, magnitude_pattern, zero_pattern, or_else, plain_root, plain}
-use Rattle.lengths.specs.Finite.{OfForm, side_pattern}
-use Rattle.lengths.specs.LengthOf.{walk_count, root_length, unless_plain, length_of}
-use Rattle.lengths.specs.Right.{CountedUnless, RightLengths}
-use Rattle.triangle.proofs.Answering.{writes, root_answers}
-use Rattle.lengths.proofs.Finites.{zero_value}
-use Rattle.lengths.proofs.FarLengths.{length_above, length_below}
+use Rattle.triangle.specs.Outcome.{Outcome, not_a_number, infinite, root_of}
+use Rattle.triangle.specs.Answer.{root_pattern, special_pattern, Answers}
+use Rattle.lengths.specs.Asked.{Asked, asked, outcome, radicand, largest, head_of}
+use Rattle.lengths.specs.Plain.{or_else, plain_root, plain}
+use Rattle.lengths.specs.LengthOf.{root_length, unless_plain, length_of}
+use Rattle.lengths.specs.Right.{CountedUnless}
+use Rattle.triangle.proofs.Answering.{root_answers}
 use Rattle.lengths.proofs.NearCounts.{count_bounded, count_walked}
 
 -- what is wanted of something asked: a plain root is the right one, and any other has a near head

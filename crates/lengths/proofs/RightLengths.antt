@@ -1,23 +1,21 @@
 -- The root of a difference of squares, and so every call.
-use Rattle.std.proofs.Common.{◌≡◌, ℕ, ◌+◌, ◌-◌, ◌*◌, ◌^◌, ◌<◌, ◌≤◌, Bool, true, false, cond, ◌||◌, eqb, ltb, [], ◌∷◌, Some, None, sym, refl, ap, ◌∙◌, subst, mul-le-mul, arith, ltb-true, eqb-true}
+use Rattle.std.proofs.Common.{◌≡◌, ℕ, ◌+◌, ◌-◌, ◌*◌, ◌^◌, ◌<◌, ◌≤◌, Bool, true, false, cond, ◌||◌, eqb, ltb, Some, None, sym, refl, ap, ◌∙◌, subst, mul-le-mul, arith, ltb-true, eqb-true}
 use Rattle.std.proofs.lemmas.Nat.{mul-lt}
 use borrow.Author.Tests.{eqb-false}
-use Rattle.exact.specs.Value.{Value, units}
+use Rattle.exact.specs.Value.{units}
 use Rattle.exact.proofs.Squares.{lt_unless}
 use Rattle.forms.specs.declared.reading.Reading.{Reading}
-use Rattle.forms.specs.declared.reading.Reading.TheVariants.{Finite}
 use Rattle.forms.specs.Encoding.{Encoding, Lawful}
 use Rattle.sources.specs.Source.{Source, Sound}
-use Rattle.sides.specs.declared.side.Side.{Side}
 use Rattle.sides.specs.Order.{side_units, is_far}
 use Rattle.sides.specs.HeadSum.{head_difference}
 use Rattle.sides.specs.Poses.{squares_apart}
 use Rattle.sides.proofs.NearHeads.{NearHead, leg_near_head}
 use Rattle.lengths.specs.declared.call.Call.{Call}
 use Rattle.lengths.specs.declared.call.Call.TheVariants.{Hypot, Cathetus, ThreeSides}
-use Rattle.triangle.specs.Outcome.{is_infinite, is_nan, magnitude, difference_of_squares, leg_outcome}
-use Rattle.triangle.specs.Answer.{root_pattern, special_pattern}
-use Rattle.lengths.specs.Asked.{difference_of, asked, radicand, largest, head_of}
+use Rattle.triangle.specs.Outcome.{is_infinite, is_nan, magnitude, difference_of_squares}
+use Rattle.triangle.specs.Answer.{root_pattern}
+use Rattle.lengths.specs.Asked.{difference_of, asked}
 use Rattle.lengths.specs.Plain.{magnitude_pattern, zero_pattern, plain_root}
 use Rattle.lengths.specs.Finite.{OfForm}
 use Rattle.lengths.specs.LengthOf.{length_of}

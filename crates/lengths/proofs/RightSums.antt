@@ -1,5 +1,5 @@
 -- The root of a sum of squares: where it is plain, the longest side is its length, and else it has a near head.
-use Rattle.std.proofs.Common.{◌≡◌, ℕ, ◌+◌, ◌-◌, ◌*◌, ◌^◌, ◌<◌, ◌≤◌, max, Bool, true, false, cond, ◌&&◌, ◌||◌, eqb, ltb, List, [], ◌∷◌, Some, None, Option, unwrap_or, sym, refl, ap, ◌∙◌, subst, true≢false, le_trans, arith, ltb-false, ltb-true, lt-ltb, eqb-true}
+use Rattle.std.proofs.Common.{◌≡◌, ℕ, ◌+◌, ◌*◌, ◌^◌, ◌<◌, ◌≤◌, Bool, true, false, cond, ◌&&◌, eqb, List, [], ◌∷◌, Some, None, Option, unwrap_or, sym, refl, ap, ◌∙◌, subst, true≢false, arith, ltb-true, lt-ltb, eqb-true}
 use Rattle.std.proofs.lemmas.Nat.{mul-lt}
 use lib.Ieee.{Float}
 use borrow.Author.Tests.{eqb-false}
@@ -9,8 +9,7 @@ use Rattle.exact.proofs.Squares.{lt_unless}
 use Rattle.exact.proofs.Values.{value_is_length}
 use Rattle.forms.specs.declared.reading.Reading.{Reading}
 use Rattle.forms.specs.Encoding.{Encoding, Lawful}
-use Rattle.sides.specs.declared.side.Side.{Side}
-use Rattle.sides.specs.Order.{side_units, descending, first, is_far, near}
+use Rattle.sides.specs.Order.{side_units, descending, first, is_far}
 use Rattle.sides.specs.HeadSum.{sum_in_order, scaled_square, add_squares}
 use Rattle.sides.specs.Poses.{squares}
 use Rattle.sides.proofs.Descending.{first_insert, squares_descending}
@@ -19,10 +18,10 @@ use Rattle.triangle.specs.Outcome.{Outcome, not_a_number, infinite, root_of, is_
 use Rattle.triangle.specs.Answer.{root_pattern, special_pattern}
 use Rattle.lengths.specs.Asked.{sum_of, magnitudes, radicand, largest, head_of}
 use Rattle.lengths.specs.Plain.{all_zero, is_empty, others_far, longest, longest_pattern, zero_pattern, plain_root}
-use Rattle.lengths.specs.Finite.{OfForm, SideValue, side_pattern}
+use Rattle.lengths.specs.Finite.{OfForm, side_pattern}
 use Rattle.triangle.proofs.Answering.{writes}
 use Rattle.lengths.proofs.Finites.{zero_value}
-use Rattle.lengths.proofs.PlainCases.{IsValue, Values, none, more, OfForms, no_more, one_more, no_some, sum_values, all_zero_is, longest_value, longest_is, reading_pattern, far_others}
+use Rattle.lengths.proofs.PlainCases.{Values, none, more, no_more, one_more, no_some, sum_values, all_zero_is, longest_value, longest_is, reading_pattern, far_others}
 use Rattle.lengths.proofs.AskedLengths.{squares_of}
 use Rattle.lengths.proofs.FarLengths.{length_above}
 use Rattle.lengths.proofs.Sorted.{Sided, reading_sided, zero_sided_of, Two, Three, two_sorted, three_sorted}

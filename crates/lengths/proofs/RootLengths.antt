@@ -1,15 +1,15 @@
 -- A posed root: its proposal is near enough to walk from, its floor root is that of the exact radicand, and the bits that rounding
 -- drops tell the exponent.
-use Rattle.std.proofs.Common.{◌≡◌, ℕ, ◌+◌, ◌-◌, ◌*◌, ◌/◌, ◌%◌, ◌^◌, ◌<◌, ◌≤◌, max, sym, refl, ap, ◌∙◌, subst, mul-le-mul_right, mod-lt, mul_assoc, le_antisymm, lt_of_mul-lt-mul_right, mul-lt-mul_of_pos_right, div-add-mod', arith, pow-add}
+use Rattle.std.proofs.Common.{◌≡◌, ℕ, ◌+◌, ◌-◌, ◌*◌, ◌/◌, ◌%◌, ◌^◌, ◌<◌, ◌≤◌, sym, ap, ◌∙◌, subst, mul-le-mul_right, mod-lt, mul_assoc, le_antisymm, lt_of_mul-lt-mul_right, div-add-mod', arith, pow-add}
 use lib.Ieee.{Float, size}
 use lib.Ieee.Digits.{size-lt, size-le}
-use Rattle.exact.specs.Root.{FloorRoot, isqrt}
+use Rattle.exact.specs.Root.{isqrt}
 use Rattle.exact.proofs.Roots.{isqrt_is}
-use Rattle.exact.proofs.Squares.{lt_of_squares, le_unless, two_le, four_pos}
-use Rattle.head.specs.Bound.{FloorRootOf, WithinFour}
+use Rattle.exact.proofs.Squares.{lt_of_squares, le_unless, two_le}
+use Rattle.head.specs.Bound.{FloorRootOf}
 use Rattle.radicand.specs.declared.words.Radicand.{Radicand}
-use Rattle.radicand.specs.Stands.{radicand_floor, Stands}
-use Rattle.walk.specs.Walk.{distance, walk_limit, Walkable}
+use Rattle.radicand.specs.Stands.{radicand_floor}
+use Rattle.walk.specs.Walk.{distance, Walkable}
 use Rattle.walk.specs.Rounded.{longer_root, dropped_bits, Scaled}
 use Rattle.sources.specs.Source.{Source, Word, Sound}
 use Rattle.sides.specs.declared.posed.Posed.{Posed}

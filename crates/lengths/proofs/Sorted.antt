@@ -1,8 +1,6 @@
 -- Finite sides of a form in descending order, each with its full length.
-use Rattle.std.proofs.Common.{◌≡◌, ℕ, ◌+◌, ◌-◌, ◌*◌, ◌^◌, ◌<◌, ◌≤◌, Bool, true, false, cond, ltb, ◌⊎◌, List, [], ◌∷◌, sym, refl, ap, ◌∙◌, subst, inl, inr, le_trans, eq-zero-or-pos, arith, ltb-false, ltb-true}
-use lib.Count.{count_leading_zeros}
+use Rattle.std.proofs.Common.{◌≡◌, ℕ, ◌+◌, ◌-◌, ◌*◌, ◌^◌, ◌<◌, ◌≤◌, Bool, true, false, cond, ltb, ◌⊎◌, List, [], ◌∷◌, sym, refl, ap, subst, inl, inr, eq-zero-or-pos, arith, ltb-false, ltb-true}
 use Rattle.exact.specs.declared.form.Form.{Form}
-use Rattle.exact.specs.declared.length.Magnitude.{Magnitude}
 use Rattle.exact.specs.Value.{Value, InRange, units}
 use Rattle.head.specs.Side.{spare_places}
 use Rattle.head.proofs.Lengths.{moved}

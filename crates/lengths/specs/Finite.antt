@@ -1,5 +1,4 @@
 -- Readings of a form's patterns.
-use Rattle.std.specs.Prelude.{◌≡◌, ℕ}
 use Rattle.exact.specs.declared.form.Form.{Form}
 use Rattle.exact.specs.Value.{Value}
 use Rattle.forms.specs.declared.reading.Reading.{Reading}

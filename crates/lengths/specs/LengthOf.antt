@@ -1,15 +1,15 @@
 -- The length of a call: the pattern that answers, and the count of the walk.
-use Rattle.std.specs.Prelude.{◌≡◌, ℕ, ◌+◌, ◌-◌, ◌*◌, ◌/◌, ◌^◌, Some, None, Option, Float}
+use Rattle.std.specs.Prelude.{ℕ, ◌+◌, ◌-◌, ◌*◌, ◌/◌, ◌^◌, Some, None, Option, Float}
 use Rattle.std.specs.Float.Ieee.{size}
 use Rattle.exact.specs.Root.{isqrt}
-use Rattle.forms.specs.Encoding.{Encoding, Lawful}
+use Rattle.forms.specs.Encoding.{Encoding}
 use Rattle.sources.specs.Source.{Source}
 use Rattle.head.specs.Head.{head_word, head_places}
 use Rattle.walk.specs.Walk.{distance}
 use Rattle.lengths.specs.declared.call.Call.{Call}
 use Rattle.lengths.specs.declared.call.Measured.{Measured}
-use Rattle.triangle.specs.Answer.{answer, root_pattern}
-use Rattle.lengths.specs.Asked.{Asked, asked, outcome, radicand, largest, head_of}
+use Rattle.triangle.specs.Answer.{root_pattern}
+use Rattle.lengths.specs.Asked.{Asked, asked, radicand, largest, head_of}
 use Rattle.lengths.specs.Plain.{plain}
 
 -- the floor root of the radicand n in the scale of a head with so many places: the largest whole number whose square is at

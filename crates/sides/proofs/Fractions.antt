@@ -1,15 +1,14 @@
 -- One fraction written in two ways, x / C and n / D: what words stand for and how near a root is do not depend on the way.
-use mathlib.Core.Path.{◌≡◌, refl, sym, ap, ◌∙◌, subst}
-use mathlib.Core.Bool.{Bool, true, false}
-use Prim.Native.Nat.{ℕ, zero, suc, ◌+◌, ◌-◌, ◌*◌, ◌/◌, ◌%◌, ◌^◌, ◌≤◌, ◌<◌}
+use mathlib.Core.Path.{◌≡◌, sym, ap, ◌∙◌}
+use Prim.Native.Nat.{ℕ, ◌+◌, ◌*◌, ◌/◌, ◌%◌, ◌^◌, ◌≤◌, ◌<◌}
 use native.Mathlib.Nat.{le_of_mul-le-mul_right, lt_of_mul-lt-mul_right, mul-le-mul_right, mul-le-mul, mul-lt-mul_of_pos_right, eq_of_mul-eq-mul_right, div-add-mod', mod-lt}
 use native.Mathlib.Omega.{arith}
 use lib.Pow.{pow-add}
 use lib.Ieee.Nearest.{div_same}
-use Rattle.exact.specs.Root.{FloorRoot, isqrt}
+use Rattle.exact.specs.Root.{isqrt}
 use Rattle.exact.proofs.Roots.{isqrt_is}
-use Rattle.exact.proofs.Squares.{four_pos, lt_of_squares, le_of_squares}
-use Rattle.head.specs.Bound.{FloorRootOf, WithinFour, NearRoot}
+use Rattle.exact.proofs.Squares.{four_pos, lt_of_squares}
+use Rattle.head.specs.Bound.{FloorRootOf, NearRoot}
 use Rattle.radicand.specs.declared.words.Radicand.{Radicand}
 use Rattle.radicand.specs.Stands.{Stands}
 

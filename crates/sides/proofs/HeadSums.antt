@@ -1,12 +1,12 @@
 -- The float radicand of magnitudes is that of their significands: scaled sides are the same floats.
-use mathlib.Core.Path.{◌≡◌, refl, sym, ap, ◌∙◌, subst}
-use mathlib.Core.Bool.{Bool, true, false, cond}
-use mathlib.Core.List.{List, [], ◌∷◌}
+use mathlib.Core.Path.{◌≡◌, ap, ◌∙◌}
+use mathlib.Core.Bool.{true, false, cond}
+use mathlib.Core.List.{[], ◌∷◌}
 use Prim.Native.Nat.{ℕ, ◌-◌, ◌≤◌, ◌<◌}
 use native.Mathlib.Nat.{le_refl}
 use native.Mathlib.Omega.{arith}
 use lib.Dec.{T}
-use lib.Ieee.{Float, binary64, fits, add, mul}
+use lib.Ieee.{Float, binary64, fits}
 use lib.Ieee.Fits.{add-fits, mul-fits}
 use Rattle.head.specs.Side.{scaled_side}
 use Rattle.head.specs.Squares.{two_squares, three_squares, squares_difference, two_radicand, three_radicand, leg_radicand}

@@ -1,11 +1,10 @@
 -- A side as the code lowers it beside the largest one: n is its significand, and d its places below.
-use mathlib.Core.Path.{◌≡◌, refl, sym, ap, ◌∙◌, subst}
-use mathlib.Core.Bool.{Bool, true, false}
+use mathlib.Core.Path.{◌≡◌, sym, ap, ◌∙◌, subst}
+use mathlib.Core.Bool.{true, false}
 use mathlib.Core.List.{[], ◌∷◌}
 use Prim.Native.Nat.{ℕ, ◌+◌, ◌-◌, ◌*◌, ◌^◌, ◌≤◌, ◌<◌}
 use native.Mathlib.Nat.{le_of_lt}
 use native.Mathlib.Omega.{arith}
-use lib.Ieee.{Float}
 use Rattle.head.specs.Side.{Full}
 use Rattle.head.specs.Squares.{two_radicand, three_radicand, leg_radicand}
 use Rattle.head.specs.Bound.{three_exact, leg_exact}

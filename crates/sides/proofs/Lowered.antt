@@ -1,16 +1,15 @@
 -- A side below the largest one: how far its leading bit lies below, and its scaled float.
-use mathlib.Core.Path.{◌≡◌, refl, sym, ap, ◌∙◌, subst}
-use mathlib.Core.Bool.{Bool, true, false}
-use Prim.Native.Nat.{ℕ, zero, suc, ◌+◌, ◌-◌, ◌*◌, ◌/◌, ◌^◌, ◌≤◌, ◌<◌}
-use native.Mathlib.Nat.{le_of_mul-le-mul_right, lt_of_mul-lt-mul_right, mul-le-mul_right, mul-lt-mul_of_pos_right, lt_of_lt_of_le, lt_of_not-le, not-le_of_lt, eq_of_mul-eq-mul_right}
+use mathlib.Core.Path.{◌≡◌, sym, ap, ◌∙◌, subst}
+use mathlib.Core.Bool.{true, false}
+use Prim.Native.Nat.{ℕ, ◌+◌, ◌-◌, ◌*◌, ◌^◌, ◌≤◌, ◌<◌}
+use native.Mathlib.Nat.{le_of_mul-le-mul_right, lt_of_mul-lt-mul_right, mul-lt-mul_of_pos_right, eq_of_mul-eq-mul_right}
 use native.Mathlib.Omega.{arith}
-use lib.Dec.{ltb}
 use lib.Pow.{pow-add, pow_pos, pow_mono}
-use lib.Ieee.{Float, binary64, size, round}
+use lib.Ieee.{binary64, size, round}
 use lib.Ieee.Digits.{size-lt, size_reaches}
 use lib.Ieee.Scale.{round_same}
 use borrow.Author.Tests.{ltb-true, ltb-false}
-use Rattle.exact.proofs.Squares.{le_unless, lt_unless, two_half, four_two}
+use Rattle.exact.proofs.Squares.{le_unless, lt_unless, two_half}
 use Rattle.head.specs.Side.{Full, scaled_side}
 use Rattle.sides.specs.Order.{is_far}
 use Rattle.sides.specs.HeadSum.{scaled}

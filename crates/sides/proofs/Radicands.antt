@@ -1,6 +1,6 @@
 -- The radicand by significands, x / 4 ^ (52 + d), is the radicand in units, n / 4 ^ (b - 1), where b are the bits of the largest side.
-use mathlib.Core.Path.{◌≡◌, refl, sym, ap, ◌∙◌, subst}
-use Prim.Native.Nat.{ℕ, zero, suc, ◌+◌, ◌-◌, ◌*◌, ◌/◌, ◌^◌, ◌≤◌, ◌<◌}
+use mathlib.Core.Path.{◌≡◌, sym, ap, ◌∙◌, subst}
+use Prim.Native.Nat.{ℕ, ◌+◌, ◌-◌, ◌*◌, ◌^◌, ◌≤◌}
 use native.Mathlib.Nat.{eq_of_mul-eq-mul_right, mul-le-mul}
 use native.Mathlib.Omega.{arith}
 use lib.Pow.{pow-add}

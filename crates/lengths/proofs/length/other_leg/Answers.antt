@@ -1,4 +1,4 @@
-use Rattle.std.proofs.Common.{◌≡◌, sym, ◌∙◌}
+use Rattle.std.proofs.Common.{sym, ◌∙◌}
 use Rattle.lengths.proofs.AskedLengths.{leg_plain, leg_root}
 use Rattle.lengths.proofs.length.other_leg.Goals as goal
 

@@ -1,4 +1,4 @@
-use Rattle.std.proofs.Common.{◌≡◌, [], ◌∷◌, sym, ◌∙◌}
+use Rattle.std.proofs.Common.{[], ◌∷◌, sym, ◌∙◌}
 use Rattle.sides.specs.Order.{descending}
 use Rattle.lengths.proofs.AskedLengths.{one_value, three_plain, three_root}
 use Rattle.lengths.proofs.length.three_sides.Goals as goal

@@ -1,15 +1,14 @@
 use Rattle.std.proofs.Common.{◌≡◌, ℕ, ◌+◌, ◌-◌, ◌*◌, ◌^◌, ◌<◌, ◌≤◌, sym, refl, ap, ◌∙◌, subst, arith}
-use lib.Ieee.{Float, size}
+use lib.Ieee.{size}
 use Rattle.exact.specs.declared.form.Form.{Form}
 use Rattle.exact.specs.Value.{InRange}
 use Rattle.exact.specs.Length.{Length}
 use Rattle.exact.specs.Root.{isqrt}
-use Rattle.radicand.specs.Stands.{radicand_floor, Stands}
+use Rattle.radicand.specs.Stands.{radicand_floor}
 use Rattle.walk.specs.Walk.{distance, Walkable}
 use Rattle.walk.specs.Rounded.{longer_root, dropped_bits, after_carry, Scaled}
-use Rattle.sources.specs.Source.{Source, Sound, proposed}
+use Rattle.sources.specs.Source.{Source, Sound}
 use Rattle.sides.specs.declared.posed.Posed.{Posed}
-use Rattle.sides.specs.Poses.{Poses}
 use Rattle.triangle.specs.Answer.{root_pattern}
 use Rattle.lengths.specs.LengthOf.{walk_count}
 use Rattle.lengths.specs.Posed.{PosedRoot}

@@ -1,15 +1,12 @@
-use mathlib.Core.Path.{◌≡◌, sym, ap, ◌∙◌, subst}
+use mathlib.Core.Path.{sym, subst}
 use Prim.Native.Nat.{ℕ, ◌+◌, ◌*◌, ◌^◌, ◌<◌}
 use native.Mathlib.Nat.{le_of_lt}
 use native.Mathlib.Omega.{arith}
-use lib.Ieee.{Float}
-use Rattle.head.specs.Head.{Heads}
 use Rattle.head.specs.Squares.{leg_radicand}
 use Rattle.head.specs.Bound.{leg_exact, NearRoot}
 use Rattle.radicand.specs.Sides.{leg_square, head_scaled, denominator}
 use Rattle.radicand.specs.declared.words.Radicand.{Radicand}
 use Rattle.radicand.specs.Stands.{Stands}
-use Rattle.sides.specs.declared.side.Side.{Side}
 use Rattle.sides.specs.Order.{side_units}
 use Rattle.sides.specs.HeadSum.{head_difference}
 use Rattle.sides.specs.Poses.{squares_apart, Poses}

@@ -1,15 +1,9 @@
-use mathlib.Core.Path.{◌≡◌, sym, ap, ◌∙◌, subst}
-use mathlib.Core.List.{[], ◌∷◌}
-use Prim.Native.Nat.{ℕ, ◌+◌, ◌*◌, ◌^◌, ◌<◌, ◌≤◌}
+use mathlib.Core.Path.{sym, subst}
+use Prim.Native.Nat.{◌+◌, ◌≤◌}
 use native.Mathlib.Nat.{le_trans}
 use native.Mathlib.Omega.{arith}
-use lib.Ieee.{Float}
 use Rattle.head.specs.Squares.{two_radicand}
-use Rattle.head.specs.Bound.{three_exact, NearRoot}
-use Rattle.radicand.specs.Sides.{three_squares, head_scaled, denominator}
-use Rattle.radicand.specs.declared.words.Radicand.{Radicand}
-use Rattle.radicand.specs.Stands.{Stands}
-use Rattle.sides.specs.declared.ordered.Ordered.{Ordered}
+use Rattle.head.specs.Bound.{three_exact}
 use Rattle.sides.specs.Order.{side_units}
 use Rattle.sides.specs.Listed.{ordered_units}
 use Rattle.sides.specs.HeadSum.{sum_in_order}
