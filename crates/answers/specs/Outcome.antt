@@ -1,5 +1,5 @@
 -- What a line is answered with, and how it leaves the solvers.
-use Rattle.std.specs.Prelude.{ℕ, List, [], ◌∷◌, ◌++◌, Ok, Err, Result}
+use Rattle.std.specs.Prelude.{ℕ, List, Ok, Err, Result}
 use Rattle.forms.specs.Binary.{binary64, binary32}
 use Rattle.forms.specs.Thousandths.{thousandths}
 use Rattle.sources.specs.declared.digit.DigitSource.{DigitSource}

@@ -1,4 +1,4 @@
-use mathlib.Core.Path.{◌≡◌, sym, ap, ◌∙◌, subst}
+use mathlib.Core.Path.{sym, ap, ◌∙◌, subst}
 use Rattle.sources.specs.Source.{exact_source}
 use Rattle.lengths.specs.Right.{AnswersCall}
 use Rattle.lengths.proofs.RightAsked.{same_pattern}
