@@ -67,13 +67,13 @@ mod tests {
         let Some(line) = pending.push(b'\n') else {
             return Err(Fail::new("no line"));
         };
-        assert!(rt; line.as_slice() == b"a\r");
+        assert!(rt; line.as_slice() == b"a\r".as_slice());
         assert!(rt; pending.finish().is_none());
         assert!(rt; pending.push(b'b').is_none());
         let Some(last) = pending.finish() else {
             return Err(Fail::new("no last line"));
         };
-        assert!(rt; last.as_slice() == b"b");
+        assert!(rt; last.as_slice() == b"b".as_slice());
         Ok(())
     }
 }

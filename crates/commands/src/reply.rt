@@ -109,20 +109,22 @@ mod tests {
             pattern: 0xabcd_u32,
             count: 0,
         });
-        assert!(rt; length.line().as_slice() == b"= 0000abcd 0\n");
+        assert!(rt; length.line().as_slice() == b"= 0000abcd 0\n".as_slice());
         let longest = Reply::length(Measured {
             pattern: 0x4014_0000_0000_00ef_u64,
             count: u64::MAX,
         });
-        assert!(rt; longest.line().as_slice() == b"= 40140000000000ef 18446744073709551615\n");
-        assert!(rt; Reply::NewScan.line().as_slice() == b"= new\n");
+        assert!(rt;
+            longest.line().as_slice() == b"= 40140000000000ef 18446744073709551615\n".as_slice()
+        );
+        assert!(rt; Reply::NewScan.line().as_slice() == b"= new\n".as_slice());
         let fault = Reply::fault(TextFault::LongLine);
-        assert!(rt; fault.line().as_slice() == b"! 7 text 80\n");
+        assert!(rt; fault.line().as_slice() == b"! 7 text 80\n".as_slice());
         let refused = Reply::Refused {
             number: 4,
             layer: Layer::Solver,
             place: 3,
         };
-        assert!(rt; refused.line().as_slice() == b"! 4 solver 3\n");
+        assert!(rt; refused.line().as_slice() == b"! 4 solver 3\n".as_slice());
     }
 }
