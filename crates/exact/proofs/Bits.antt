@@ -6,17 +6,17 @@ use Rattle.exact.proofs.Squares.{two_le, two_half, le_unless}
 use Rattle.exact.proofs.Ulps.{four_is}
 
 -- k has m bits
-pub record Has_bits (k m : ℕ) : Type 0 where
+pub record HasBits (k m : ℕ) : Type 0 where
   pub most : k < 2 ^ m
   pub least : 2 ^ m ≤ 2 * k + 1
 
-pub bits_are : (k : ℕ) → k < 2 ^ 64 → Has_bits k (64 - count_leading_zeros 64 k)
+pub bits_are : (k : ℕ) → k < 2 ^ 64 → HasBits k (64 - count_leading_zeros 64 k)
 bits_are k h =
     let l = leading_length 64 k h in
     let e : l.0 ≡ 64 - count_leading_zeros 64 k = omega (arith, l.1) in
-    subst (Has_bits k) e (record { most = l.2; least = l.3 })
+    subst (HasBits k) e (record { most = l.2; least = l.3 })
 
-module _ (k m : ℕ) (h : Has_bits k m) where
+module _ (k m : ℕ) (h : HasBits k m) where
   -- the leading bit
   leading : 1 ≤ m → 2 ^ (m - 1) ≤ k
   leading g = omega (arith, h.least, two_half m g)
@@ -34,7 +34,7 @@ module _ (k m : ℕ) (h : Has_bits k m) where
   bits_least p g = le_unless (max p 1) m (λ (b : m < max p 1). let i : m ≤ p - 1 = omega arith in omega (arith, two_le m (p - 1) i, h.most, g))
 
 -- the bits of a radicand tell the last place of its root
-pub ulp_by_bits : (p n m : ℕ) → Has_bits n m → Ulp p n ((m + 1) / 2 - p)
+pub ulp_by_bits : (p n m : ℕ) → HasBits n m → Ulp p n ((m + 1) / 2 - p)
 ulp_by_bits p n m h = record {
   fits = subst (λ (x : ℕ). n < x) (sym (four_is (p + ((m + 1) / 2 - p)))) (short_of n m h (2 * (p + ((m + 1) / 2 - p))) (omega arith));
   least = λ f g. let b : m ≤ 2 * (p + f) = bits_most n m h (2 * (p + f)) (subst (λ (x : ℕ). n < x) (four_is (p + f)) g) in omega arith;

@@ -11,7 +11,7 @@ use Rattle.exact.specs.Length.{Ulp, NearestWhole, Length, kept, carried}
 use Rattle.exact.proofs.Squares.{lt_of_squares, lt_or_le, two_half}
 use Rattle.exact.proofs.Roots.{isqrt_is, is_isqrt}
 use Rattle.exact.proofs.Ulps.{significand_most}
-use Rattle.exact.proofs.Bits.{Has_bits, bits_are, bits_most, bits_least, short_of}
+use Rattle.exact.proofs.Bits.{HasBits, bits_are, bits_most, bits_least, short_of}
 use Rattle.radicand.specs.declared.words.Radicand.{Radicand}
 use Rattle.radicand.specs.Stands.{radicand_floor, Stands}
 use Rattle.walk.specs.declared.digit.Rooted.{Rooted}
@@ -56,7 +56,7 @@ module _ (radicand : Radicand) (t q : ℕ) (long : Longer radicand t q) where
   pub longer_is : t ≡ longer_root radicand
   longer_is = is_isqrt (4 * radicand_floor radicand + radicand.bits) t (record { low = omega (arith, long.square); high = omega (arith, long.square, long.small) })
 
-  has_bits : Has_bits t (bits t)
+  has_bits : HasBits t (bits t)
   has_bits = bits_are t (omega (arith, long.most))
 
   bits_54 : 54 ≤ bits t
