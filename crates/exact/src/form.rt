@@ -2,6 +2,8 @@
 ghost use Rattle.std.specs.Prelude.{◌≡◌, ◌-◌, ◌^◌, ◌<◌, ◌≤◌, Decides};
 ghost use Rattle.exact.specs.Value.{Value};
 
+use crate::length::Magnitude;
+
 /// The magnitudes `significand * 2^exponent` of a form. Exponents are counted from the least one,
 /// so they run from 0 to `span`.
 #[derive(Clone, Copy)]
@@ -17,36 +19,43 @@ pub struct Form {
 }
 
 impl Form {
-    /// Whether `significand * 2^exponent` is a value of the form.
-    pub fn contains(self, significand: u64, exponent: u32) -> bool
-        ensures { Decides result (Value self significand exponent) }
+    /// Whether a magnitude is a value of the form.
+    pub fn contains(self, magnitude: Magnitude) -> bool
+        ensures { Decides result (Value self magnitude.significand magnitude.exponent) }
     {
-        self.reaches(significand, exponent) && self.fits(significand, exponent)
+        self.reaches(magnitude) && self.fits(magnitude)
     }
 
     // Whether the exponent, and at the largest exponent the significand, is not too large.
-    fn reaches(self, significand: u64, exponent: u32) -> bool
-        ensures { Decides result ((exponent ≤ self.span) × (exponent ≡ self.span → significand ≤ self.largest)) }
+    fn reaches(self, magnitude: Magnitude) -> bool
+        ensures { Decides result ((magnitude.exponent ≤ self.span) × (magnitude.exponent ≡ self.span → magnitude.significand ≤ self.largest)) }
     {
-        if exponent == self.span {
-            significand <= self.largest
+        if magnitude.exponent == self.span {
+            magnitude.significand <= self.largest
         } else {
-            exponent < self.span
+            magnitude.exponent < self.span
         }
     }
 
     // Whether the significand has no bit too many, and above the least exponent none too few.
-    fn fits(self, significand: u64, exponent: u32) -> bool
-        ensures { Decides result ((significand < 2 ^ self.precision) × (0 < exponent → 2 ^ (self.precision - 1) ≤ significand)) }
+    fn fits(self, magnitude: Magnitude) -> bool
+        ensures { Decides result ((magnitude.significand < 2 ^ self.precision) × (0 < magnitude.exponent → 2 ^ (self.precision - 1) ≤ magnitude.significand)) }
     {
-        let bits = 64 - significand.leading_zeros();
-        bits <= self.precision && (exponent == 0 || bits >= self.precision.max(1))
+        let bits = 64 - magnitude.significand.leading_zeros();
+        bits <= self.precision && (magnitude.exponent == 0 || bits >= self.precision.max(1))
     }
 }
 
 #[cfg(test)]
 mod tests {
     use super::*;
+
+    fn magnitude(significand: u64, exponent: u32) -> Magnitude {
+        Magnitude {
+            significand,
+            exponent,
+        }
+    }
 
     #[test]
     fn edges_of_a_form(rt: HostRuntime) {
@@ -56,14 +65,14 @@ mod tests {
             span: 4,
             largest: 6,
         };
-        assert!(rt; form.contains(0, 0));
-        assert!(rt; form.contains(1, 0));
-        assert!(rt; form.contains(7, 3));
-        assert!(rt; !form.contains(8, 3));
-        assert!(rt; form.contains(4, 1));
-        assert!(rt; !form.contains(3, 1));
-        assert!(rt; form.contains(6, 4));
-        assert!(rt; !form.contains(7, 4));
-        assert!(rt; !form.contains(4, 5));
+        assert!(rt; form.contains(magnitude(0, 0)));
+        assert!(rt; form.contains(magnitude(1, 0)));
+        assert!(rt; form.contains(magnitude(7, 3)));
+        assert!(rt; !form.contains(magnitude(8, 3)));
+        assert!(rt; form.contains(magnitude(4, 1)));
+        assert!(rt; !form.contains(magnitude(3, 1)));
+        assert!(rt; form.contains(magnitude(6, 4)));
+        assert!(rt; !form.contains(magnitude(7, 4)));
+        assert!(rt; !form.contains(magnitude(4, 5)));
     }
 }

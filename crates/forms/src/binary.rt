@@ -1,97 +1,236 @@
 //! The binary interchange formats of 64 and 32 bits.
-ghost use Rattle.std.specs.Prelude.{◌≡◌, ◌+◌, ◌^◌, ◌<◌};
-ghost use Rattle.forms.specs.Binary.{binary64, binary32, read_fields};
+ghost use Rattle.std.specs.Prelude.{◌≡◌, ℕ, ◌+◌, ◌^◌, ◌<◌, ℤ, negsuc};
+ghost use Rattle.forms.specs.Encoding.{Lawful};
+ghost use Rattle.forms.specs.Binary.{binary, read_fields, FieldsAre};
 ghost use Rattle.std.proofs.Common.{rules};
 
 use crate::number_form::NumberForm;
 use crate::reading::Reading;
 use exact::form::Form;
+use exact::length::Magnitude;
+use std::marker::PhantomData;
 
-pub struct Binary64;
+/// A pattern type with the binary interchange format of its width. From the top a pattern has a sign
+/// bit, an exponent field and a fraction field.
+pub trait BinaryPattern: Copy {
+    /// The bits of a significand, the implicit one counted.
+    const PRECISION: u32;
 
-impl NumberForm for Binary64 {
-    type Pattern = u64;
+    /// The exponent of the least positive value.
+    const LEAST_EXPONENT: i32;
 
-    ghost encoding = { binary64 };
+    /// An exponent field of ones.
+    const EXPONENT_ONES: u32;
+
+    /// The bit above the fraction field.
+    const IMPLICIT_BIT: u64;
+
+    const SIGN_BIT: u64;
+
+    const QUIET_NAN: Self;
+
+    const PLUS_INFINITY: Self;
+
+    ghost PRECISION: { ℕ };
+
+    ghost LEAST_EXPONENT: { ℤ };
+
+    ghost EXPONENT_ONES: { ℕ };
+
+    ghost IMPLICIT_BIT: { ℕ };
+
+    ghost SIGN_BIT: { ℕ };
+
+    ghost QUIET_NAN: { Self };
+
+    ghost PLUS_INFINITY: { Self };
+
+    ghost exponent_bits: { ℕ };
+
+    ghost fraction_bits: { ℕ };
+
+    ghost word: { Self → ℕ };
+
+    ghost pattern: { ℕ → Self };
+
+    /// The pattern as a word.
+    fn to_word(self) -> u64
+        ensures { result ≡ word self };
+
+    /// The pattern of a word with no sign bit.
+    fn from_word(bits: u64) -> Self
+        requires { bits < SIGN_BIT }
+        ensures { result ≡ pattern bits };
+
+    ghost fields: { FieldsAre exponent_bits fraction_bits PRECISION EXPONENT_ONES IMPLICIT_BIT SIGN_BIT };
+
+    ghost quiet_nan_is: { QUIET_NAN ≡ (binary exponent_bits fraction_bits LEAST_EXPONENT word pattern).quiet_nan };
+
+    ghost plus_infinity_is: { PLUS_INFINITY ≡ (binary exponent_bits fraction_bits LEAST_EXPONENT word pattern).plus_infinity };
+
+    ghost lawful: { Lawful (binary exponent_bits fraction_bits LEAST_EXPONENT word pattern) };
+}
+
+impl BinaryPattern for u64 {
+    const PRECISION: u32 = 53;
+
+    const LEAST_EXPONENT: i32 = -1074;
+
+    const EXPONENT_ONES: u32 = 0x7ff;
+
+    const IMPLICIT_BIT: u64 = 1 << 52;
+
+    const SIGN_BIT: u64 = 1 << 63;
+
+    const QUIET_NAN: u64 = 0x7ff8_0000_0000_0000;
+
+    const PLUS_INFINITY: u64 = 0x7ff0_0000_0000_0000;
+
+    ghost PRECISION = { 53 };
+
+    ghost LEAST_EXPONENT = { negsuc 1073 };
+
+    ghost EXPONENT_ONES = { 0x7ff };
+
+    ghost IMPLICIT_BIT = { 2 ^ 52 };
+
+    ghost SIGN_BIT = { 2 ^ 63 };
+
+    ghost QUIET_NAN = { 0x7ff8_0000_0000_0000 };
+
+    ghost PLUS_INFINITY = { 0x7ff0_0000_0000_0000 };
+
+    ghost exponent_bits = { 11 };
+
+    ghost fraction_bits = { 52 };
+
+    ghost word = { λ pattern. pattern };
+
+    ghost pattern = { λ word. word };
+
+    ghost fields = { Prim.search rules };
+
+    ghost quiet_nan_is = { Prim.search rules };
+
+    ghost plus_infinity_is = { Prim.search rules };
 
     ghost lawful = { Prim.search rules };
 
-    fn form() -> Form {
-        Form {
-            precision: 53,
-            least: -1074,
-            span: 2045,
-            largest: 0x1f_ffff_ffff_ffff,
-        }
+    fn to_word(self) -> u64 {
+        self
     }
 
-    fn read(pattern: u64) -> Reading {
-        let fields = Fields {
-            negative: pattern >> 63 == 1,
-            exponent: (pattern >> 52) as u32 % 0x800,
-            fraction: pattern % 0x10_0000_0000_0000,
-        };
-        fields.read(0x7ff, 0x10_0000_0000_0000)
-    }
-
-    fn write(significand: u64, exponent: u32) -> Option<u64> {
-        if Self::form().contains(significand, exponent) {
-            Some(((exponent as u64) << 52) + significand)
-        } else {
-            None
-        }
-    }
-
-    fn quiet_nan() -> u64 {
-        0x7ff8_0000_0000_0000
-    }
-
-    fn plus_infinity() -> u64 {
-        0x7ff0_0000_0000_0000
+    fn from_word(bits: u64) -> u64 {
+        bits
     }
 }
 
-pub struct Binary32;
+impl BinaryPattern for u32 {
+    const PRECISION: u32 = 24;
 
-impl NumberForm for Binary32 {
-    type Pattern = u32;
+    const LEAST_EXPONENT: i32 = -149;
 
-    ghost encoding = { binary32 };
+    const EXPONENT_ONES: u32 = 0xff;
+
+    const IMPLICIT_BIT: u64 = 1 << 23;
+
+    const SIGN_BIT: u64 = 1 << 31;
+
+    const QUIET_NAN: u32 = 0x7fc0_0000;
+
+    const PLUS_INFINITY: u32 = 0x7f80_0000;
+
+    ghost PRECISION = { 24 };
+
+    ghost LEAST_EXPONENT = { negsuc 148 };
+
+    ghost EXPONENT_ONES = { 0xff };
+
+    ghost IMPLICIT_BIT = { 2 ^ 23 };
+
+    ghost SIGN_BIT = { 2 ^ 31 };
+
+    ghost QUIET_NAN = { 0x7fc0_0000 };
+
+    ghost PLUS_INFINITY = { 0x7f80_0000 };
+
+    ghost exponent_bits = { 8 };
+
+    ghost fraction_bits = { 23 };
+
+    ghost word = { λ pattern. pattern };
+
+    ghost pattern = { λ word. word };
+
+    ghost fields = { Prim.search rules };
+
+    ghost quiet_nan_is = { Prim.search rules };
+
+    ghost plus_infinity_is = { Prim.search rules };
 
     ghost lawful = { Prim.search rules };
 
+    fn to_word(self) -> u64 {
+        self as u64
+    }
+
+    fn from_word(bits: u64) -> u32 {
+        bits as u32
+    }
+}
+
+/// The binary interchange format of a pattern type.
+pub struct Binary<P> {
+    pattern: PhantomData<P>,
+}
+
+pub type Binary64 = Binary<u64>;
+
+pub type Binary32 = Binary<u32>;
+
+impl<P: BinaryPattern> NumberForm for Binary<P> {
+    type Pattern = P;
+
+    ghost encoding = { binary P.exponent_bits P.fraction_bits P.LEAST_EXPONENT P.word P.pattern };
+
+    ghost lawful = { P.lawful };
+
     fn form() -> Form {
         Form {
-            precision: 24,
-            least: -149,
-            span: 253,
-            largest: 0xff_ffff,
+            precision: P::PRECISION,
+            least: P::LEAST_EXPONENT,
+            span: P::EXPONENT_ONES - 2,
+            largest: 2 * P::IMPLICIT_BIT - 1,
         }
     }
 
-    fn read(pattern: u32) -> Reading {
+    fn read(pattern: P) -> Reading {
+        let word = pattern.to_word();
+        let ones = P::EXPONENT_ONES;
+        let implicit_bit = P::IMPLICIT_BIT;
         let fields = Fields {
-            negative: pattern >> 31 == 1,
-            exponent: (pattern >> 23) % 0x100,
-            fraction: (pattern % 0x80_0000) as u64,
+            negative: word >= P::SIGN_BIT,
+            exponent: (word / implicit_bit % (ones as u64 + 1)) as u32,
+            fraction: word % implicit_bit,
         };
-        fields.read(0xff, 0x80_0000)
+        fields.read(ones, implicit_bit)
     }
 
-    fn write(significand: u64, exponent: u32) -> Option<u32> {
-        if Self::form().contains(significand, exponent) {
-            Some((exponent << 23) + significand as u32)
+    fn write(magnitude: Magnitude) -> Option<P> {
+        if Self::form().contains(magnitude) {
+            let field = magnitude.exponent as u64 * P::IMPLICIT_BIT;
+            Some(P::from_word(field + magnitude.significand))
         } else {
             None
         }
     }
 
-    fn quiet_nan() -> u32 {
-        0x7fc0_0000
+    fn quiet_nan() -> P {
+        P::QUIET_NAN
     }
 
-    fn plus_infinity() -> u32 {
-        0x7f80_0000
+    fn plus_infinity() -> P {
+        P::PLUS_INFINITY
     }
 }
 
@@ -141,6 +280,13 @@ mod tests {
     fn finite(negative: bool, significand: u64, exponent: u32) -> Reading {
         Reading::Finite {
             negative,
+            significand,
+            exponent,
+        }
+    }
+
+    fn magnitude(significand: u64, exponent: u32) -> Magnitude {
+        Magnitude {
             significand,
             exponent,
         }
@@ -196,15 +342,21 @@ mod tests {
 
     #[test]
     fn written_values(rt: HostRuntime) {
-        assert_eq!(rt; Binary64::write(0, 0), Some(0));
-        assert_eq!(rt; Binary64::write(1 << 52, 0), Some(0x0010_0000_0000_0000));
+        assert_eq!(rt; Binary64::write(magnitude(0, 0)), Some(0));
         assert_eq!(rt;
-            Binary64::write((1 << 53) - 1, 2045),
+            Binary64::write(magnitude(1 << 52, 0)),
+            Some(0x0010_0000_0000_0000)
+        );
+        assert_eq!(rt;
+            Binary64::write(magnitude((1 << 53) - 1, 2045)),
             Some(0x7fef_ffff_ffff_ffff)
         );
-        assert_eq!(rt; Binary64::write(1 << 52, 2046), None);
-        assert_eq!(rt; Binary64::write(1, 1), None);
-        assert_eq!(rt; Binary32::write(0x80_0000, 150), Some(0x4b80_0000));
-        assert_eq!(rt; Binary32::write(0x100_0000, 0), None);
+        assert_eq!(rt; Binary64::write(magnitude(1 << 52, 2046)), None);
+        assert_eq!(rt; Binary64::write(magnitude(1, 1)), None);
+        assert_eq!(rt;
+            Binary32::write(magnitude(0x80_0000, 150)),
+            Some(0x4b80_0000)
+        );
+        assert_eq!(rt; Binary32::write(magnitude(0x100_0000, 0)), None);
     }
 }

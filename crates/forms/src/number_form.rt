@@ -6,6 +6,7 @@ ghost use Rattle.forms.specs.Encoding.{Encoding, Lawful};
 
 use crate::reading::Reading;
 use exact::form::Form;
+use exact::length::Magnitude;
 
 /// A number form: its parameters, and how patterns encode its values. All that code may use of a
 /// form is its law.
@@ -22,9 +23,9 @@ pub trait NumberForm {
     fn read(pattern: Self::Pattern) -> Reading
         ensures { result ≡ encoding.reading pattern };
 
-    /// The plus-signed pattern of `significand * 2^exponent`, or nothing where that is no value.
-    fn write(significand: u64, exponent: u32) -> Option<Self::Pattern>
-        ensures { SomeIff result (Value encoding.form significand exponent) (encoding.written significand exponent) };
+    /// The plus-signed pattern of a magnitude, or nothing where that is no value.
+    fn write(magnitude: Magnitude) -> Option<Self::Pattern>
+        ensures { SomeIff result (Value encoding.form magnitude.significand magnitude.exponent) (encoding.written magnitude.significand magnitude.exponent) };
 
     /// The pattern that answers where there is no number to answer.
     fn quiet_nan() -> Self::Pattern

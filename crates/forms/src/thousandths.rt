@@ -5,6 +5,7 @@ ghost use Rattle.std.proofs.Common.{rules};
 use crate::number_form::NumberForm;
 use crate::reading::Reading;
 use exact::form::Form;
+use exact::length::Magnitude;
 
 pub struct Thousandths;
 
@@ -51,9 +52,9 @@ impl NumberForm for Thousandths {
         }
     }
 
-    fn write(significand: u64, exponent: u32) -> Option<u32> {
-        if Self::form().contains(significand, exponent) {
-            Some(significand as u32)
+    fn write(magnitude: Magnitude) -> Option<u32> {
+        if Self::form().contains(magnitude) {
+            Some(magnitude.significand as u32)
         } else {
             None
         }
@@ -80,6 +81,13 @@ mod tests {
         }
     }
 
+    fn magnitude(significand: u64, exponent: u32) -> Magnitude {
+        Magnitude {
+            significand,
+            exponent,
+        }
+    }
+
     #[test]
     fn edges(rt: HostRuntime) {
         assert_eq!(rt; Thousandths::read(0), whole(false, 0));
@@ -95,8 +103,11 @@ mod tests {
         );
         assert_eq!(rt; Thousandths::read(0x8000_0002), whole(true, 2_147_483_646));
         assert_eq!(rt; Thousandths::read(0xffff_ffff), whole(true, 1));
-        assert_eq!(rt; Thousandths::write(2_147_483_646, 0), Some(0x7fff_fffe));
-        assert_eq!(rt; Thousandths::write(2_147_483_647, 0), None);
-        assert_eq!(rt; Thousandths::write(1, 1), None);
+        assert_eq!(rt;
+            Thousandths::write(magnitude(2_147_483_646, 0)),
+            Some(0x7fff_fffe)
+        );
+        assert_eq!(rt; Thousandths::write(magnitude(2_147_483_647, 0)), None);
+        assert_eq!(rt; Thousandths::write(magnitude(1, 1)), None);
     }
 }
