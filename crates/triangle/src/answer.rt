@@ -5,7 +5,7 @@ ghost use Rattle.forms.specs.Encoding.{Encoding, Lawful};
 ghost use Rattle.triangle.specs.Outcome.{hypot_outcome};
 ghost use Rattle.triangle.specs.Answer.{OneAnswer, AnswersRoot, root_pattern, special_pattern};
 
-use exact::length::length;
+use exact::length::{Magnitude, length};
 use forms::number_form::NumberForm;
 use forms::reading::Reading;
 
@@ -20,8 +20,7 @@ pub fn root_pattern<F: NumberForm>(n: u64) -> F::Pattern
     ensures value { result ≡ root_pattern F.NumberForm.encoding n }
     ensures nearest { AnswersRoot F.NumberForm.encoding n result }
 {
-    let root = length(F::form().precision, n);
-    written_or_infinity::<F>(root.significand, root.exponent)
+    written_or_infinity::<F>(length(F::form().precision, n))
 }
 
 /// The pattern that answers for the hypotenuse over two sides where one is no finite number, and
@@ -37,12 +36,12 @@ pub fn special_pattern<F: NumberForm>(x: Reading, y: Reading) -> Option<F::Patte
     }
 }
 
-/// The pattern of `significand * 2^exponent`, or plus infinity where that is no value of the form.
-pub fn written_or_infinity<F: NumberForm>(significand: u64, exponent: u32) -> F::Pattern
-    ensures value { Value F.NumberForm.encoding.form significand exponent → result ≡ F.NumberForm.encoding.written significand exponent }
-    ensures beyond { (Value F.NumberForm.encoding.form significand exponent → ⊥) → result ≡ F.NumberForm.encoding.plus_infinity }
+/// The pattern of a magnitude, or plus infinity where that is no value of the form.
+pub fn written_or_infinity<F: NumberForm>(magnitude: Magnitude) -> F::Pattern
+    ensures value { Value F.NumberForm.encoding.form magnitude.significand magnitude.exponent → result ≡ F.NumberForm.encoding.written magnitude.significand magnitude.exponent }
+    ensures beyond { (Value F.NumberForm.encoding.form magnitude.significand magnitude.exponent → ⊥) → result ≡ F.NumberForm.encoding.plus_infinity }
 {
-    F::write(significand, exponent).unwrap_or(F::plus_infinity())
+    F::write(magnitude).unwrap_or(F::plus_infinity())
 }
 
 #[cfg(test)]
