@@ -1,4 +1,4 @@
--- The length of what is asked, by its plain cases or by its root; the sides in any order, and two sides as three.
+-- What is asked, by its plain cases or by a posed root, and its length; the sides in any order.
 use Rattle.std.proofs.Common.{◌≡◌, ℕ, ◌+◌, ◌*◌, cond, ◌||◌, eqb, leb, ◌⊎◌, List, [], ◌∷◌, Some, None, Option, sym, refl, ap, ◌∙◌, subst, inl, inr}
 use Rattle.exact.specs.declared.form.Form.{Form}
 use Rattle.exact.specs.declared.length.Magnitude.{Magnitude}
@@ -10,35 +10,40 @@ use Rattle.sides.specs.declared.ordered.Ordered.{Ordered}
 use Rattle.sides.specs.Order.{side_units, descending, first, is_far}
 use Rattle.sides.specs.Listed.{ordered_units}
 use Rattle.sides.specs.HeadSum.{sum_in_order, head_difference}
-use Rattle.sides.specs.Poses.{squares, squares_apart}
+use Rattle.sides.specs.declared.posed.Posed.{Posed}
+use Rattle.sides.specs.Poses.{squares, squares_apart, Poses}
 use Rattle.sides.proofs.Descending.{squares_descending}
 use Rattle.sources.specs.Source.{Source}
 use Rattle.triangle.specs.Outcome.{magnitude, sum_of_squares, hypot_outcome, leg_outcome}
 use Rattle.triangle.specs.Answer.{special_pattern}
 use Rattle.lengths.specs.Asked.{Asked, sum_of, difference_of, outcome, magnitudes, radicand, largest, head_of}
-use Rattle.lengths.specs.Plain.{zero_pattern, or_else, plain_root}
+use Rattle.lengths.specs.Plain.{zero_pattern, or_else, plain_root, plain}
 use Rattle.lengths.specs.Finite.{OfForm, SideValue, side_pattern}
 use Rattle.lengths.specs.LengthOf.{root_length, unless_plain, length_asked}
 use Rattle.lengths.proofs.PlainCases.{no_more, one_more, sum_values, plain_sum_is, leg_values, plain_leg_is}
 
-module _ {P : Type 0} (encoding : Encoding P) (source : Source) (a : Asked) where
-  pub asked_plain : (p : P) → special_pattern encoding (outcome a) ≡ None → plain_root encoding a ≡ Some p → record { pattern = p; count = 0 } ≡ length_asked encoding source a
-  asked_plain p s q = λ i. unless_plain (or_else (sym s i) (sym q i)) (root_length encoding source (head_of a) (radicand a) (largest a))
+module _ {P : Type 0} (encoding : Encoding P) (a : Asked) where
+  -- where nothing is special, a plain case is one of finite sides
+  plain_by_root : (r : Option P) → special_pattern encoding (outcome a) ≡ None → plain_root encoding a ≡ r → plain encoding a ≡ r
+  plain_by_root r s q = λ i. or_else (s i) (q i)
 
-  pub asked_root : special_pattern encoding (outcome a) ≡ None → plain_root encoding a ≡ None → root_length encoding source (head_of a) (radicand a) (largest a) ≡ length_asked encoding source a
-  asked_root s q = λ i. unless_plain (or_else (sym s i) (sym q i)) (root_length encoding source (head_of a) (radicand a) (largest a))
+  module _ (source : Source) where
+    pub length_plain : (p : P) → plain encoding a ≡ Some p → record { pattern = p; count = 0 } ≡ length_asked encoding source a
+    length_plain p q = λ i. unless_plain (sym q i) (root_length encoding source (head_of a) (radicand a) (largest a))
+
+    pub length_posed : plain encoding a ≡ None → root_length encoding source (head_of a) (radicand a) (largest a) ≡ length_asked encoding source a
+    length_posed q = λ i. unless_plain (sym q i) (root_length encoding source (head_of a) (radicand a) (largest a))
 
 pub squares_of : (sides : List Reading) → squares (magnitudes sides) ≡ sum_of_squares sides
 squares_of [] = refl
 squares_of (r ∷ sides) = ap (λ (x : ℕ). magnitude r * magnitude r + x) (squares_of sides)
 
 -- a root posed by the sides in order
-pub in_order : {P : Type 0} (encoding : Encoding P) (source : Source) (sides : List Reading) (o : Ordered) → ordered_units o ≡ descending (magnitudes sides)
-    → root_length encoding source (sum_in_order (ordered_units o)) (squares (ordered_units o)) (side_units o.first)
-    ≡ root_length encoding source (head_of (sum_of sides)) (radicand (sum_of sides)) (largest (sum_of sides))
-in_order encoding source sides o e =
-    let n : squares (ordered_units o) ≡ sum_of_squares sides = ap squares e ∙ squares_descending (magnitudes sides) ∙ squares_of sides in
-    λ i. root_length encoding source (sum_in_order (e i)) (n i) (first (e i))
+in_order : (sides : List Reading) (units : List ℕ) (p : Posed) → units ≡ descending (magnitudes sides)
+    → Poses (sum_in_order units) (squares units) (first units) p → Poses (head_of (sum_of sides)) (radicand (sum_of sides)) (largest (sum_of sides)) p
+in_order sides units p e q =
+    subst (λ (n : ℕ). Poses (head_of (sum_of sides)) n (largest (sum_of sides)) p) (squares_descending (magnitudes sides) ∙ squares_of sides)
+    (subst (λ (l : List ℕ). Poses (sum_in_order l) (squares l) (first l) p) e q)
 
 -- one of three magnitudes is a value where all are
 pub one_value : (form : Form) (m a b c : Magnitude) → (m ≡ a) ⊎ ((m ≡ b) ⊎ (m ≡ c))
@@ -48,7 +53,7 @@ one_value form m a b c (inr (inl e)) x y z = subst (λ (n : Magnitude). Value fo
 one_value form m a b c (inr (inr e)) x y z = subst (λ (n : Magnitude). Value form n.significand n.exponent) (sym e) z
 
 -- three sides, none of them special, in the order o
-module _ {P : Type 0} (encoding : Encoding P) (law : Lawful encoding) (source : Source) (x y z : Reading) (o : Ordered)
+module _ {P : Type 0} (encoding : Encoding P) (law : Lawful encoding) (x y z : Reading) (o : Ordered)
     (a : OfForm encoding.form x) (b : OfForm encoding.form y) (c : OfForm encoding.form z)
     (side : SideValue encoding.form o.first) (sorted : ordered_units o ≡ descending (magnitudes (x ∷ y ∷ z ∷ [])))
     (special : special_pattern encoding (hypot_outcome (x ∷ y ∷ z ∷ [])) ≡ None) where
@@ -58,31 +63,32 @@ module _ {P : Type 0} (encoding : Encoding P) (law : Lawful encoding) (source : 
   abbrev tested : Option P
   tested = cond (eqb (side_units o.first) 0 || is_far (side_units o.first) (side_units o.second)) (Some (side_pattern encoding o.first)) None
 
-  plain_is : plain_root encoding asked_sum ≡ tested
-  plain_is = plain_sum_is encoding law x y z o (sum_values encoding (x ∷ y ∷ z ∷ []) (one_more a (one_more b (one_more c no_more))) special) side sorted
+  pub three_plain : (r : Option P) → r ≡ tested → plain encoding asked_sum ≡ r
+  three_plain r e =
+      plain_by_root encoding asked_sum r special
+      (plain_sum_is encoding law x y z o (sum_values encoding (x ∷ y ∷ z ∷ []) (one_more a (one_more b (one_more c no_more))) special) side sorted ∙ sym e)
 
-  pub three_plain : (p : P) → Some p ≡ tested → record { pattern = p; count = 0 } ≡ length_asked encoding source asked_sum
-  three_plain p e = asked_plain encoding source asked_sum p special (plain_is ∙ sym e)
-
-  pub three_root : None ≡ tested
-      → root_length encoding source (sum_in_order (ordered_units o)) (squares (ordered_units o)) (side_units o.first) ≡ length_asked encoding source asked_sum
-  three_root e = in_order encoding source (x ∷ y ∷ z ∷ []) o sorted ∙ asked_root encoding source asked_sum special (plain_is ∙ sym e)
+  pub three_posed : (p : Posed) → None ≡ tested → Poses (sum_in_order (ordered_units o)) (squares (ordered_units o)) (side_units o.first) p
+      → (plain encoding asked_sum ≡ None) × Poses (head_of asked_sum) (radicand asked_sum) (largest asked_sum) p
+  three_posed p e q = (three_plain None e, in_order (x ∷ y ∷ z ∷ []) (ordered_units o) p sorted q)
 
 -- a leg, its sides not special
-module _ {P : Type 0} (encoding : Encoding P) (law : Lawful encoding) (source : Source) (x y : Reading) (s t : Side)
+module _ {P : Type 0} (encoding : Encoding P) (law : Lawful encoding) (x y : Reading) (s t : Side)
     (a : OfForm encoding.form x) (b : OfForm encoding.form y) (side : SideValue encoding.form s) (p : side_units s ≡ magnitude x) (q : side_units t ≡ magnitude y)
     (special : special_pattern encoding (leg_outcome x y) ≡ None) where
+  abbrev asked_leg : Asked
+  asked_leg = difference_of x y
+
   abbrev tested_leg : Option P
   tested_leg = cond (leb (side_units s) (side_units t)) (Some (zero_pattern encoding)) (cond (is_far (side_units s) (side_units t)) (Some (side_pattern encoding s)) None)
 
-  leg_plain_is : plain_root encoding (difference_of x y) ≡ tested_leg
-  leg_plain_is = plain_leg_is encoding law x y s t (leg_values encoding x y a b special) side p q
+  pub leg_plain : (r : Option P) → r ≡ tested_leg → plain encoding asked_leg ≡ r
+  leg_plain r e = plain_by_root encoding asked_leg r special (plain_leg_is encoding law x y s t (leg_values encoding x y a b special) side p q ∙ sym e)
 
-  pub leg_plain : (r : P) → Some r ≡ tested_leg → record { pattern = r; count = 0 } ≡ length_asked encoding source (difference_of x y)
-  leg_plain r e = asked_plain encoding source (difference_of x y) r special (leg_plain_is ∙ sym e)
-
-  pub leg_root : None ≡ tested_leg
-      → root_length encoding source (head_difference (side_units s) (side_units t)) (squares_apart (side_units s) (side_units t)) (side_units s) ≡ length_asked encoding source (difference_of x y)
-  leg_root e =
-      (λ i. root_length encoding source (head_difference (p i) (q i)) (squares_apart (p i) (q i)) (p i))
-      ∙ asked_root encoding source (difference_of x y) special (leg_plain_is ∙ sym e)
+  pub leg_posed : (r : Posed) → None ≡ tested_leg → Poses (head_difference (side_units s) (side_units t)) (squares_apart (side_units s) (side_units t)) (side_units s) r
+      → (plain encoding asked_leg ≡ None) × Poses (head_of asked_leg) (radicand asked_leg) (largest asked_leg) r
+  leg_posed r e h = (
+    leg_plain None e,
+    subst (λ (n : ℕ). Poses (head_difference n (magnitude y)) (squares_apart n (magnitude y)) n r) p
+        (subst (λ (m : ℕ). Poses (head_difference (side_units s) m) (squares_apart (side_units s) m) (side_units s) r) q h),
+  )

@@ -35,7 +35,7 @@ pub record IsValue (form : Form) (r : Reading) : Type 0 where
   pub value : Value form k e
 
 finite_value : (form : Form) (r : Reading) → OfForm form r → is_signalling r ≡ false → is_infinite r ≡ false → is_quiet r ≡ false → IsValue form r
-finite_value form (Finite n k e) o a b c = record { negative = n; k = k; e = e; is = refl; value = o }
+finite_value form (Finite n k e) o a b c = record { negative = n; k = k; e = e; is = refl; value = o n k e refl }
 finite_value form (Infinite n) o a b c = absurd (true≢false b)
 finite_value form QuietNan o a b c = absurd (true≢false c)
 finite_value form SignallingNan o a b c = absurd (true≢false a)
@@ -230,7 +230,4 @@ module _ {P : Type 0} (encoding : Encoding P) where
 
 -- what a lawful form reads is of the form
 pub reads_of_form : {P : Type 0} (encoding : Encoding P) → Lawful encoding → (pattern : P) (r : Reading) → r ≡ encoding.reading pattern → OfForm encoding.form r
-reads_of_form encoding law pattern (Finite n k e) q = law.reads_values pattern n k e (sym q)
-reads_of_form encoding law pattern (Infinite n) q = tt
-reads_of_form encoding law pattern QuietNan q = tt
-reads_of_form encoding law pattern SignallingNan q = tt
+reads_of_form encoding law pattern r q n k e is = law.reads_values pattern n k e (sym q ∙ is)

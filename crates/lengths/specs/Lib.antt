@@ -1,6 +1,6 @@
 pub mod Asked
-pub mod Posed
 pub mod Plain
+pub mod Posed
 pub mod Finite
 pub mod LengthOf
 pub mod Right

@@ -3,17 +3,20 @@
 //! A hypotenuse over two sides is the resultant of these and a third side of no length.
 ghost use Rattle.std.specs.Prelude.{◌≡◌, ◌≤◌, [], ◌∷◌};
 ghost use Rattle.lengths.specs.Asked.{sum_of, difference_of, asked};
-ghost use Rattle.lengths.specs.Finite.{OfForm};
-ghost use Rattle.lengths.specs.LengthOf.{length_of, length_asked};
+ghost use Rattle.lengths.specs.LengthOf.{length_of};
+ghost use Rattle.lengths.specs.Posed.{PosedUnlessPlain};
 
 use crate::call::{Call, Measured};
-use crate::plain::{finite_side, plain_leg, plain_sum, special_leg, special_sum};
+use crate::finite::{FiniteSide, SideReading};
+use crate::plain::{plain_leg, plain_sum, special_leg, special_sum};
 use crate::root::root_length;
 use forms::number_form::NumberForm;
-use forms::reading::Reading;
 use sides::order::descending;
 use sides::pose::{pose_leg, pose_sum};
+use sides::posed::Posed;
 use sources::root_source::RootSource;
+use std::marker::PhantomData;
+use std::ops::ControlFlow;
 
 /// The pattern and the count of a call, in any form, with any source of a grade of at most 7. The bound
 /// is for inner callers; every pattern is accepted.
@@ -24,99 +27,70 @@ pub fn length_of<F: NumberForm, R: RootSource>(
     requires graded { (R.RootSource.meaning source.now).grade ≤ 7 }
     ensures value { result ≡ length_of F.NumberForm.encoding (R.RootSource.meaning source.now) call }
 {
-    by_sides::<F, R>(source, call)
-}
-
-// The length of what a call asks for.
-fn by_sides<F: NumberForm, R: RootSource>(
-    source: &R,
-    call: Call<F::Pattern>,
-) -> Measured<F::Pattern>
-    requires graded { (R.RootSource.meaning source.now).grade ≤ 7 }
-    ensures { result ≡ length_asked F.NumberForm.encoding (R.RootSource.meaning source.now) (asked F.NumberForm.encoding call) }
-{
-    match call {
-        Call::Hypot { x, y } => two_sides::<F, R>(source, side::<F>(x), side::<F>(y)),
-        Call::Cathetus { hypotenuse, leg } => {
-            other_leg::<F, R>(source, side::<F>(hypotenuse), side::<F>(leg))
-        }
-        Call::ThreeSides { x, y, z } => {
-            three_sides::<F, R>(source, side::<F>(x), side::<F>(y), side::<F>(z))
-        }
+    match pose::<F>(call) {
+        ControlFlow::Break(pattern) => Measured { pattern, count: 0 },
+        ControlFlow::Continue(posed) => root_length::<F, R>(source, posed),
     }
 }
 
-// The reading of a side's pattern.
-fn side<F: NumberForm>(pattern: F::Pattern) -> Reading
-    ensures reading { result ≡ F.NumberForm.encoding.reading pattern }
-    ensures finite { OfForm F.NumberForm.encoding.form result }
+// The pattern that answers for a call in a plain case, and else the root that is to be found.
+fn pose<F: NumberForm>(call: Call<F::Pattern>) -> ControlFlow<F::Pattern, Posed>
+    ensures { PosedUnlessPlain F.NumberForm.encoding (asked F.NumberForm.encoding call) result }
 {
-    F::read(pattern)
+    match call {
+        Call::Hypot { x, y } => two_sides::<F>(SideReading::read(x), SideReading::read(y)),
+        Call::Cathetus { hypotenuse, leg } => {
+            other_leg::<F>(SideReading::read(hypotenuse), SideReading::read(leg))
+        }
+        Call::ThreeSides { x, y, z } => three_sides::<F>(
+            SideReading::read(x),
+            SideReading::read(y),
+            SideReading::read(z),
+        ),
+    }
 }
 
 // The root of the sum of two squares.
-fn two_sides<F: NumberForm, R: RootSource>(
-    source: &R,
-    x: Reading,
-    y: Reading,
-) -> Measured<F::Pattern>
-    requires graded { (R.RootSource.meaning source.now).grade ≤ 7 }
-    requires first { OfForm F.NumberForm.encoding.form x }
-    requires second { OfForm F.NumberForm.encoding.form y }
-    ensures { result ≡ length_asked F.NumberForm.encoding (R.RootSource.meaning source.now) (sum_of (x ∷ y ∷ [])) }
+fn two_sides<F: NumberForm>(x: SideReading<F>, y: SideReading<F>) -> ControlFlow<F::Pattern, Posed>
+    ensures { PosedUnlessPlain F.NumberForm.encoding (sum_of (x.reading ∷ y.reading ∷ [])) result }
 {
-    let nothing = Reading::Finite {
-        negative: false,
-        significand: 0,
-        exponent: 0,
-    };
-    three_sides::<F, R>(source, x, y, nothing)
+    three_sides(x, y, SideReading::zero())
 }
 
 // The root of the sum of three squares.
-fn three_sides<F: NumberForm, R: RootSource>(
-    source: &R,
-    x: Reading,
-    y: Reading,
-    z: Reading,
-) -> Measured<F::Pattern>
-    requires graded { (R.RootSource.meaning source.now).grade ≤ 7 }
-    requires first { OfForm F.NumberForm.encoding.form x }
-    requires second { OfForm F.NumberForm.encoding.form y }
-    requires third { OfForm F.NumberForm.encoding.form z }
-    ensures { result ≡ length_asked F.NumberForm.encoding (R.RootSource.meaning source.now) (sum_of (x ∷ y ∷ z ∷ [])) }
+fn three_sides<F: NumberForm>(
+    x: SideReading<F>,
+    y: SideReading<F>,
+    z: SideReading<F>,
+) -> ControlFlow<F::Pattern, Posed>
+    ensures { PosedUnlessPlain F.NumberForm.encoding (sum_of (x.reading ∷ y.reading ∷ z.reading ∷ [])) result }
 {
-    if let Some(pattern) = special_sum::<F>(x, y, z) {
-        return Measured { pattern, count: 0 };
+    if let Some(pattern) = special_sum::<F>(&[x.reading, y.reading, z.reading]) {
+        return ControlFlow::Break(pattern);
     }
-    let a = finite_side::<F>(x);
-    let b = finite_side::<F>(y);
-    let c = finite_side::<F>(z);
-    let sides = descending(a, b, c);
-    if let Some(pattern) = plain_sum::<F>(sides) {
-        return Measured { pattern, count: 0 };
+    let sides = descending(x.finite().side, y.finite().side, z.finite().side);
+    let longest = FiniteSide::<F> {
+        side: sides.first,
+        form: PhantomData,
+    };
+    if let Some(pattern) = plain_sum(&longest, sides.second) {
+        return ControlFlow::Break(pattern);
     }
-    root_length::<F, R>(source, pose_sum(sides))
+    ControlFlow::Continue(pose_sum(sides))
 }
 
 // The root of the difference of two squares.
-fn other_leg<F: NumberForm, R: RootSource>(
-    source: &R,
-    x: Reading,
-    y: Reading,
-) -> Measured<F::Pattern>
-    requires graded { (R.RootSource.meaning source.now).grade ≤ 7 }
-    requires first { OfForm F.NumberForm.encoding.form x }
-    requires second { OfForm F.NumberForm.encoding.form y }
-    ensures { result ≡ length_asked F.NumberForm.encoding (R.RootSource.meaning source.now) (difference_of x y) }
+fn other_leg<F: NumberForm>(x: SideReading<F>, y: SideReading<F>) -> ControlFlow<F::Pattern, Posed>
+    ensures { PosedUnlessPlain F.NumberForm.encoding (difference_of x.reading y.reading) result }
 {
-    let hypotenuse = finite_side::<F>(x);
-    let leg = finite_side::<F>(y);
-    if let Some(pattern) = special_leg::<F>(x, y, hypotenuse.is_shorter(leg)) {
-        return Measured { pattern, count: 0 };
+    let hypotenuse = x.finite();
+    let leg = y.finite().side;
+    let shorter = hypotenuse.side.is_shorter(leg);
+    if let Some(pattern) = special_leg::<F>(x.reading, y.reading, shorter) {
+        return ControlFlow::Break(pattern);
     }
-    if let Some(pattern) = plain_leg::<F>(hypotenuse, leg) {
-        return Measured { pattern, count: 0 };
+    if let Some(pattern) = plain_leg(&hypotenuse, leg) {
+        return ControlFlow::Break(pattern);
     }
-    root_length::<F, R>(source, pose_leg(hypotenuse, leg))
+    ControlFlow::Continue(pose_leg(hypotenuse.side, leg))
 }

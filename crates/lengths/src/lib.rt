@@ -4,6 +4,7 @@
 
 pub mod call;
 pub mod examples;
+pub mod finite;
 pub mod length;
 pub mod plain;
 pub mod root;
