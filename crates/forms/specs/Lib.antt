@@ -1,3 +1,4 @@
+pub mod Kinds
 pub mod Encoding
 pub mod Binary
 pub mod Thousandths

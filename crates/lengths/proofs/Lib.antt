@@ -1,6 +1,5 @@
 pub mod Computed
 pub mod Finites
-pub mod SomeSides
 pub mod PlainCases
 pub mod FarLengths
 pub mod AskedLengths

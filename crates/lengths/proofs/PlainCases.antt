@@ -14,7 +14,8 @@ use Rattle.sides.specs.declared.ordered.Ordered.{Ordered}
 use Rattle.sides.specs.Order.{side_units, descending, first, is_far}
 use Rattle.sides.specs.Listed.{ordered_units}
 use Rattle.sides.proofs.Descending.{first_insert, far_too}
-use Rattle.triangle.specs.Outcome.{Outcome, not_a_number, infinite, root_of, is_signalling, is_infinite, is_quiet, is_nan, some, magnitude, sum_of_squares, difference_of_squares, hypot_outcome, leg_outcome}
+use Rattle.forms.specs.Kinds.{is_signalling, is_infinite, is_quiet, is_nan}
+use Rattle.triangle.specs.Outcome.{Outcome, not_a_number, infinite, root_of, some, magnitude, sum_of_squares, difference_of_squares, hypot_outcome, leg_outcome}
 use Rattle.triangle.specs.Answer.{special_pattern}
 use Rattle.lengths.specs.Asked.{sum_of, difference_of, magnitudes}
 use Rattle.lengths.specs.Plain.{all_zero, is_empty, others_far, longest, magnitude_pattern, zero_pattern, longest_pattern, plain_root}

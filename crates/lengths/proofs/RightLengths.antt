@@ -13,7 +13,8 @@ use Rattle.sides.specs.Poses.{squares_apart}
 use Rattle.sides.proofs.NearHeads.{NearHead, leg_near_head}
 use Rattle.lengths.specs.declared.call.Call.{Call}
 use Rattle.lengths.specs.declared.call.Call.TheVariants.{Hypot, Cathetus, ThreeSides}
-use Rattle.triangle.specs.Outcome.{is_infinite, is_nan, magnitude, difference_of_squares}
+use Rattle.forms.specs.Kinds.{is_infinite, is_nan}
+use Rattle.triangle.specs.Outcome.{magnitude, difference_of_squares}
 use Rattle.triangle.specs.Answer.{root_pattern}
 use Rattle.lengths.specs.Asked.{difference_of, asked}
 use Rattle.lengths.specs.Plain.{magnitude_pattern, zero_pattern, plain_root}

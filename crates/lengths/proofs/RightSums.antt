@@ -14,7 +14,8 @@ use Rattle.sides.specs.HeadSum.{sum_in_order, scaled_square, add_squares}
 use Rattle.sides.specs.Poses.{squares}
 use Rattle.sides.proofs.Descending.{first_insert, squares_descending}
 use Rattle.sides.proofs.NearHeads.{NearHead, sum_near_head}
-use Rattle.triangle.specs.Outcome.{Outcome, not_a_number, infinite, root_of, is_signalling, is_infinite, is_quiet, some, magnitude, sum_of_squares, hypot_outcome}
+use Rattle.forms.specs.Kinds.{is_signalling, is_infinite, is_quiet}
+use Rattle.triangle.specs.Outcome.{Outcome, not_a_number, infinite, root_of, some, magnitude, sum_of_squares, hypot_outcome}
 use Rattle.triangle.specs.Answer.{root_pattern, special_pattern}
 use Rattle.lengths.specs.Asked.{sum_of, magnitudes, radicand, largest, head_of}
 use Rattle.lengths.specs.Plain.{all_zero, is_empty, others_far, longest, longest_pattern, zero_pattern, plain_root}

@@ -1,7 +1,8 @@
 //! The plain cases, in which no root has to be found.
 ghost use Rattle.std.specs.Prelude.{◌≡◌, ◌||◌, if◌then◌else◌, Some, None, nat_eq, nat_le, nat_lt};
 ghost use Rattle.sides.specs.Order.{side_units, is_far};
-ghost use Rattle.triangle.specs.Outcome.{is_signalling, is_infinite, is_quiet, is_nan, magnitude, hypot_outcome, leg_outcome};
+ghost use Rattle.forms.specs.Kinds.{is_signalling, is_infinite, is_quiet, is_nan};
+ghost use Rattle.triangle.specs.Outcome.{magnitude, hypot_outcome, leg_outcome};
 ghost use Rattle.triangle.specs.Answer.{special_pattern};
 ghost use Rattle.lengths.specs.Plain.{zero_pattern};
 ghost use Rattle.lengths.specs.Finite.{side_pattern};

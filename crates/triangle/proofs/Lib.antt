@@ -1,3 +1,4 @@
 pub mod Answering
 pub mod Computed
 pub mod Resultants
+pub mod SomeSides

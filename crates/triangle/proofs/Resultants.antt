@@ -2,7 +2,8 @@
 use Rattle.std.proofs.Common.{◌≡◌, ℕ, ◌+◌, ◌*◌, Bool, true, false, cond, List, [], ◌∷◌, None, refl, ap, ◌∙◌, arith}
 use Rattle.forms.specs.declared.reading.Reading.{Reading}
 use Rattle.forms.specs.Encoding.{Encoding}
-use Rattle.triangle.specs.Outcome.{Outcome, not_a_number, infinite, root_of, is_signalling, is_infinite, is_quiet, some, magnitude, sum_of_squares, hypot_outcome}
+use Rattle.forms.specs.Kinds.{is_signalling, is_infinite, is_quiet}
+use Rattle.triangle.specs.Outcome.{Outcome, not_a_number, infinite, root_of, some, magnitude, sum_of_squares, hypot_outcome}
 use Rattle.triangle.specs.Answer.{special_pattern}
 
 module _ {P : Type 0} (encoding : Encoding P) where

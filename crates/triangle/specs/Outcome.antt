@@ -1,35 +1,15 @@
 -- What the sides of a right triangle come to before anything is rounded.
-use Rattle.std.specs.Prelude.{ℕ, ◌+◌, ◌-◌, ◌*◌, Bool, true, false, cond, ◌||◌, List, [], ◌∷◌, nat_lt}
+use Rattle.std.specs.Prelude.{ℕ, ◌+◌, ◌-◌, ◌*◌, Bool, false, cond, ◌||◌, List, [], ◌∷◌, nat_lt}
 use Rattle.exact.specs.Value.{units}
 use Rattle.forms.specs.declared.reading.Reading.{Reading}
 use Rattle.forms.specs.declared.reading.Reading.TheVariants.{Finite, Infinite, QuietNan, SignallingNan}
+use Rattle.forms.specs.Kinds.{is_signalling, is_infinite, is_quiet, is_nan}
 
 pub data Outcome : Type 0 where
   not_a_number : Outcome
   infinite : Outcome
   -- the root of a whole number; the root counts units of the form's least exponent
   root_of : ℕ → Outcome
-
-abbrev pub is_signalling : Reading → Bool
-is_signalling (Finite negative k e) = false
-is_signalling (Infinite negative) = false
-is_signalling QuietNan = false
-is_signalling SignallingNan = true
-
-abbrev pub is_infinite : Reading → Bool
-is_infinite (Finite negative k e) = false
-is_infinite (Infinite negative) = true
-is_infinite QuietNan = false
-is_infinite SignallingNan = false
-
-abbrev pub is_quiet : Reading → Bool
-is_quiet (Finite negative k e) = false
-is_quiet (Infinite negative) = false
-is_quiet QuietNan = true
-is_quiet SignallingNan = false
-
-abbrev pub is_nan : Reading → Bool
-is_nan reading = is_signalling reading || is_quiet reading
 
 -- one of the sides is so
 abbrev pub some : (Reading → Bool) → List Reading → Bool

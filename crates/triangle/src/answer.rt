@@ -1,5 +1,5 @@
 //! The pattern that answers for a root, in any number form.
-ghost use Rattle.std.specs.Prelude.{◌≡◌, [], ◌∷◌};
+ghost use Rattle.std.specs.Prelude.{◌≡◌};
 ghost use Rattle.exact.specs.Value.{Value};
 ghost use Rattle.forms.specs.Encoding.{Encoding, Lawful};
 ghost use Rattle.triangle.specs.Outcome.{hypot_outcome};
@@ -23,16 +23,22 @@ pub fn root_pattern<F: NumberForm>(n: u64) -> F::Pattern
     written_or_infinity::<F>(length(F::form().precision, n))
 }
 
-/// The pattern that answers for the hypotenuse over two sides where one is no finite number, and
-/// nothing where both are finite. A signalling NaN comes first, then an infinity, then a quiet NaN.
-pub fn special_pattern<F: NumberForm>(x: Reading, y: Reading) -> Option<F::Pattern>
-    ensures { result ≡ special_pattern F.NumberForm.encoding (hypot_outcome (x ∷ y ∷ [])) }
+/// The pattern that answers for a hypotenuse or a resultant where a side is no finite number, and
+/// nothing where all sides are finite. A signalling NaN comes first, then an infinity, then a quiet
+/// NaN.
+pub fn special_pattern<F: NumberForm>(sides: &[Reading]) -> Option<F::Pattern>
+    ensures { result ≡ special_pattern F.NumberForm.encoding (hypot_outcome sides.now) }
 {
-    match (x, y) {
-        (Reading::SignallingNan, _) | (_, Reading::SignallingNan) => Some(F::quiet_nan()),
-        (Reading::Infinite { .. }, _) | (_, Reading::Infinite { .. }) => Some(F::plus_infinity()),
-        (Reading::QuietNan, _) | (_, Reading::QuietNan) => Some(F::quiet_nan()),
-        (Reading::Finite { .. }, Reading::Finite { .. }) => None,
+    if sides.iter().any(|side| side.is_signalling()) {
+        return Some(F::quiet_nan());
+    }
+    if sides.iter().any(|side| side.is_infinite()) {
+        return Some(F::plus_infinity());
+    }
+    if sides.iter().any(|side| side.is_quiet()) {
+        Some(F::quiet_nan())
+    } else {
+        None
     }
 }
 

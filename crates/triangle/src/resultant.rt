@@ -16,8 +16,8 @@ pub fn resultant(x: u32, y: u32) -> u32
     ensures value { result ≡ hypot_pattern thousandths (x ∷ y ∷ []) }
     ensures nearest { Answers thousandths (hypot_of thousandths (x ∷ y ∷ [])) result }
 {
-    let special = special_pattern::<Thousandths>(Thousandths::read(x), Thousandths::read(y));
-    if let Some(pattern) = special {
+    let sides = [Thousandths::read(x), Thousandths::read(y)];
+    if let Some(pattern) = special_pattern::<Thousandths>(&sides) {
         return pattern;
     }
     let a = whole_magnitude(x);
