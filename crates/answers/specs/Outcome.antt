@@ -4,8 +4,8 @@ use Rattle.forms.specs.Binary.{binary64, binary32}
 use Rattle.forms.specs.Thousandths.{thousandths}
 use Rattle.sources.specs.declared.digit.DigitSource.{DigitSource}
 use Rattle.sources.specs.Source.{Source, exact_source}
-use Rattle.solver.specs.declared.log.Reply.{Reply as Replied}
-use Rattle.solver.specs.declared.log.Reply.TheVariants.{Served, Refused, Renewed}
+use Rattle.solver.specs.Reply.{Reply as Replied}
+use Rattle.solver.specs.declared.log.Done.TheVariants.{Served, Renewed}
 use Rattle.solver.specs.Serving.{reply_to, after_request}
 use Rattle.commands.specs.declared.command.Command.{Command}
 use Rattle.commands.specs.declared.command.Command.TheVariants.{Binary64, Binary32, Thousandths}
@@ -25,9 +25,9 @@ digits source = exact_source
 
 -- what a solver replied, as an answer to a line: a refusal of the solver is carried whole
 abbrev pub request_outcome : {P : Type 0} → (P → PatternBits) → Replied P → Result Reply TextFault
-request_outcome written (Served measured) = Ok (length_reply written measured)
-request_outcome written (Refused refusal) = Err (Call refusal)
-request_outcome written Renewed = Ok NewScan
+request_outcome written (Ok (Served measured)) = Ok (length_reply written measured)
+request_outcome written (Err refusal) = Err (Call refusal)
+request_outcome written (Ok Renewed) = Ok NewScan
 
 -- the solver of the form that a command names answers it, and the other two are left as they were
 module _ (solvers : Solvers) where

@@ -1,5 +1,5 @@
 -- What a column call writes, returns and leaves.
-use Rattle.std.specs.Prelude.{ℕ, ◌+◌, Bool, cond, ◌&&◌, List, [], ◌∷◌, length, Some, None, Ok, Err, Option, Result, ◌==◌, nat_lt, slice_set}
+use Rattle.std.specs.Prelude.{ℕ, ◌+◌, Bool, cond, ◌&&◌, List, [], ◌∷◌, length, Ok, Err, Result, ◌==◌, nat_lt, slice_set}
 use Rattle.forms.specs.Encoding.{Encoding}
 use Rattle.sources.specs.Source.{Source}
 use Rattle.lengths.specs.declared.call.Call.{Call}
@@ -64,16 +64,16 @@ abbrev pub same_lengths : {P : Type 0} → List P → List P → List P → List
 same_lengths xs ys ls cs = length ys == length xs && (length ls == length xs && length cs == length xs)
 
 -- why a column makes no call, if it does not: first the lengths of the columns are looked at, then the number of entries
-abbrev pub shape_refusal : {P : Type 0} → List P → List P → List P → List ℕ → Option ColumnRefusal
-shape_refusal xs ys ls cs =
+abbrev pub checked_shape : {P : Type 0} → List P → List P → List P → List ℕ → Result (Unit {0}) ColumnRefusal
+checked_shape xs ys ls cs =
     cond (same_lengths xs ys ls cs)
-    (cond (nat_lt 4096 (length xs)) (Some (TooManyEntries (length xs))) None)
-    (Some DifferentLengths)
+    (cond (nat_lt 4096 (length xs)) (Err (TooManyEntries (length xs))) (Ok tt))
+    (Err DifferentLengths)
 
-abbrev pub unless_refused : {F R P : Type 0} → Option ColumnRefusal → List P → List ℕ → Sealed F R → LeftBy F R P → LeftBy F R P
-unless_refused None ls cs solver made = made
-unless_refused (Some refusal) ls cs solver made = left_by ls cs solver (Err refusal)
+abbrev pub unless_refused : {F R P : Type 0} → Result (Unit {0}) ColumnRefusal → List P → List ℕ → Sealed F R → LeftBy F R P → LeftBy F R P
+unless_refused (Ok checked) ls cs solver made = made
+unless_refused (Err refusal) ls cs solver made = left_by ls cs solver (Err refusal)
 
 -- a column call
 abbrev pub column_of : {F R P : Type 0} → Encoding P → (R → Source) → Operation → Sealed F R → List P → List P → List P → List ℕ → LeftBy F R P
-column_of encoding meaning operation solver xs ys ls cs = unless_refused (shape_refusal xs ys ls cs) ls cs solver (entries encoding meaning operation 0 solver xs ys ls cs)
+column_of encoding meaning operation solver xs ys ls cs = unless_refused (checked_shape xs ys ls cs) ls cs solver (entries encoding meaning operation 0 solver xs ys ls cs)

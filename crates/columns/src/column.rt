@@ -2,7 +2,7 @@
 ghost use Rattle.std.specs.Prelude.{◌≡◌, ◌<◌, length};
 ghost use Rattle.solver.specs.Serving.{call_result, after_call};
 ghost use Rattle.solver.specs.Log.{Logs, told_call};
-ghost use Rattle.columns.specs.Column.{call_of, at_place, length_written, count_written, entries, shape_refusal, column_of, left_by};
+ghost use Rattle.columns.specs.Column.{call_of, at_place, length_written, count_written, entries, checked_shape, column_of, left_by};
 ghost use Rattle.columns.specs.ColumnLog.{told_column};
 
 use crate::refusal::{ColumnRefusal, EntryRefused};
@@ -48,23 +48,21 @@ pub fn length_column<F: NumberForm, R: RootSource>(
     ensures value { left_by lengths.new counts.new solver.new result ≡ column_of F.NumberForm.encoding R.RootSource.meaning operation solver.old xs.now ys.now lengths.old counts.old }
     ensures log { Logs F.NumberForm.encoding R.RootSource.meaning solver.old (told_column operation xs.now ys.now lengths.new counts.new result) solver.new }
 {
-    match shape_refusal(xs, ys, lengths, counts) {
-        Some(refusal) => Err(refusal),
-        None => fill(solver, operation, xs, ys, lengths, counts),
-    }
+    check_shape(xs, ys, lengths, counts)?;
+    fill(solver, operation, xs, ys, lengths, counts)
 }
 
-// Why columns of these lengths are refused, if they are.
-fn shape_refusal<P>(xs: &[P], ys: &[P], lengths: &[P], counts: &[u64]) -> Option<ColumnRefusal>
-    ensures { result ≡ shape_refusal xs.now ys.now lengths.now counts.now }
+// Refuses columns that differ in length or have too many entries.
+fn check_shape<P>(xs: &[P], ys: &[P], lengths: &[P], counts: &[u64]) -> Result<(), ColumnRefusal>
+    ensures { result ≡ checked_shape xs.now ys.now lengths.now counts.now }
 {
     if ys.len() != xs.len() || lengths.len() != xs.len() || counts.len() != xs.len() {
-        return Some(ColumnRefusal::DifferentLengths);
+        return Err(ColumnRefusal::DifferentLengths);
     }
     if xs.len() > 4096 {
-        return Some(ColumnRefusal::TooManyEntries { entries: xs.len() });
+        return Err(ColumnRefusal::TooManyEntries { entries: xs.len() });
     }
-    None
+    Ok(())
 }
 
 // The entries of columns of one length, up to the first that is refused.
@@ -82,6 +80,7 @@ fn fill<F: NumberForm, R: RootSource>(
     ensures value { left_by lengths.new counts.new solver.new result ≡ entries F.NumberForm.encoding R.RootSource.meaning operation 0 solver.old xs.now ys.now lengths.old counts.old }
     ensures log { Logs F.NumberForm.encoding R.RootSource.meaning solver.old (told_column operation xs.now ys.now lengths.new counts.new result) solver.new }
 {
+    // By index: zipped with the columns to write, an entry is `(i, (((x, y), length), count))`, no plainer.
     for (i, x) in xs.iter().enumerate() {
         entry(solver, i, operation, *x, ys[i], lengths, counts)?;
     }
@@ -106,6 +105,7 @@ fn entry<F: NumberForm, R: RootSource>(
     ensures after { solver.new ≡ after_call F.NumberForm.encoding R.RootSource.meaning solver.old (call_of operation x y) }
     ensures log { Logs F.NumberForm.encoding R.RootSource.meaning solver.old (told_call (call_of operation x y) (call_result F.NumberForm.encoding R.RootSource.meaning solver.old (call_of operation x y))) solver.new }
 {
+    // By `match`, since the refusal gets its place here, which a `From` cannot know.
     match solver.measure(operation.call(x, y)) {
         Ok(measured) => {
             lengths[place] = measured.pattern;

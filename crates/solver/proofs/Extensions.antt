@@ -13,7 +13,7 @@ use Rattle.solver.specs.declared.states.Solver.{Solver}
 use Rattle.solver.specs.declared.states.Sealed.{Sealed}
 use Rattle.solver.specs.declared.states.SealRefused.{SealRefused}
 use Rattle.solver.specs.declared.log.Request.{Request}
-use Rattle.solver.specs.declared.log.Reply.TheVariants.{Renewed}
+use Rattle.solver.specs.declared.log.Done.TheVariants.{Renewed}
 use Rattle.solver.specs.declared.log.Entry.{Entry}
 use Rattle.solver.specs.Sealing.{reserve, sealing, just_sealed, sealed_unless, seal_result, broken}
 use Rattle.solver.specs.Serving.{served_or_refused, left_after, call_result, after_call, after_scan, replied}
@@ -55,7 +55,7 @@ module _ {F R P : Type 0} (encoding : Encoding P) (meaning : R → Source) (solv
   logs_scan w = rw w (record {
     same_source = refl;
     same_allowance = refl;
-    goes_on = λ log h. goes_on log solver.steps_left (scan_entry Renewed) solver.allowance h renew;
+    goes_on = λ log h. goes_on log solver.steps_left (scan_entry (Ok Renewed)) solver.allowance h renew;
   })
 
 -- a sealing that was not refused opens a log

@@ -1,5 +1,5 @@
 -- Every complete log keeps the law: by induction over the log, each entry is the next one of the complete log before it.
-use Rattle.std.proofs.Common.{◌≡◌, ℕ, ◌+◌, ◌<◌, ◌≤◌, List, [], ◌∷◌, ◌++◌, None, refl, ap, ◌∙◌, subst, arith}
+use Rattle.std.proofs.Common.{◌≡◌, ℕ, ◌+◌, ◌<◌, ◌≤◌, List, [], ◌∷◌, ◌++◌, None, refl, ap, ◌∙◌, subst, arith, Ok, Err}
 use Rattle.std.proofs.lemmas.Bool.Decides.{nat_tests}
 use Rattle.forms.specs.Encoding.{Encoding, Lawful}
 use Rattle.sources.specs.Source.{Source, Sound}
@@ -9,8 +9,8 @@ use Rattle.lengths.specs.LengthOf.{length_of}
 use Rattle.lengths.specs.Right.{RightLengths}
 use Rattle.lengths.proofs.RightLengths.{right_lengths}
 use Rattle.solver.specs.declared.refusal.CallRefusal.TheVariants.{TooFewSteps}
-use Rattle.solver.specs.declared.log.Reply.{Reply}
-use Rattle.solver.specs.declared.log.Reply.TheVariants.{Served, Refused, Renewed}
+use Rattle.solver.specs.Reply.{Reply}
+use Rattle.solver.specs.declared.log.Done.TheVariants.{Served, Renewed}
 use Rattle.solver.specs.declared.log.Entry.{Entry}
 use Rattle.solver.specs.Sealing.{reserve, sealing}
 use Rattle.solver.specs.Log.{Next, Complete, length_entry, scan_entry}
@@ -87,19 +87,19 @@ module _ {P : Type 0} (encoding : Encoding P) (source : Source) (allowance : ℕ
       go ih (part more q) = ih more q
 
   -- what the next entry can be
-  next_served : (k : ℕ) (call : Call P) (measured : Measured P) (after : ℕ) → Comes k (length_entry call (Served measured)) after → measured ≡ length_of encoding source call
+  next_served : (k : ℕ) (call : Call P) (measured : Measured P) (after : ℕ) → Comes k (length_entry call (Ok (Served measured))) after → measured ≡ length_of encoding source call
   next_served k call measured after (serve d h) = refl
 
-  next_refused : (k : ℕ) (call : Call P) (reply : Reply P) (after : ℕ) → Comes k (length_entry call reply) after → k < reserve source → reply ≡ Refused (TooFewSteps k)
+  next_refused : (k : ℕ) (call : Call P) (reply : Reply P) (after : ℕ) → Comes k (length_entry call reply) after → k < reserve source → reply ≡ Err (TooFewSteps k)
   next_refused k call reply after (serve d h) few = absurd (omega arith)
   next_refused k call reply after (refuse d h) few = refl
 
   next_enough : (k : ℕ) (call : Call P) (reply : Reply P) (after : ℕ) → Comes k (length_entry call reply) after → reserve source ≤ k
-      → (measured : Measured P) × (reply ≡ Served measured)
+      → (measured : Measured P) × (reply ≡ Ok (Served measured))
   next_enough k call reply after (serve d h) enough = (length_of encoding source d, refl)
   next_enough k call reply after (refuse d h) enough = absurd (omega arith)
 
-  next_scan : (k after : ℕ) (reply : Reply P) → Comes k (scan_entry reply) after → reply ≡ Renewed
+  next_scan : (k after : ℕ) (reply : Reply P) → Comes k (scan_entry reply) after → reply ≡ Ok Renewed
   next_scan k after reply renew = refl
 
   module _ (right : RightLengths encoding source) where
@@ -124,10 +124,10 @@ module _ {P : Type 0} (encoding : Encoding P) (source : Source) (allowance : ℕ
         (t.after, subst (λ z. Comes z entry t.after) (left_told before t.left k t.complete q) t.next)
 
     module _ (lawful : Lawful encoding) (log : List (Entry P)) (left : ℕ) (h : Done log left) where
-      is_length : (before after : List (Entry P)) (call : Call P) (measured : Measured P) → log ≡ before ++ length_entry call (Served measured) ∷ after
+      is_length : (before after : List (Entry P)) (call : Call P) (measured : Measured P) → log ≡ before ++ length_entry call (Ok (Served measured)) ∷ after
           → measured ≡ length_of encoding source call
       is_length before after call measured p =
-          let t = stands log left h before after (length_entry call (Served measured)) p in next_served t.left call measured t.after t.next
+          let t = stands log left h before after (length_entry call (Ok (Served measured))) p in next_served t.left call measured t.after t.next
 
       law : Law encoding source allowance log left
       law = record {

@@ -1,6 +1,6 @@
 -- Each list of requests has one complete log: the steps left decide what the next entry of a request is, so a log is made
 -- request by request, and two logs of the same requests agree entry by entry.
-use Rattle.std.proofs.Common.{◌≡◌, ℕ, ◌-◌, Bool, true, false, leb, List, [], ◌∷◌, ◌++◌, sym, refl, ap, ◌∙◌, subst, arith, leb-false, leb-true}
+use Rattle.std.proofs.Common.{◌≡◌, ℕ, ◌-◌, Bool, true, false, leb, List, [], ◌∷◌, ◌++◌, sym, refl, ap, ◌∙◌, subst, arith, leb-false, leb-true, Ok, Err}
 use Rattle.std.proofs.lemmas.List.{append_assoc, append-nil}
 use Rattle.forms.specs.Encoding.{Encoding}
 use Rattle.sources.specs.Source.{Source}
@@ -8,7 +8,7 @@ use Rattle.lengths.specs.LengthOf.{length_of}
 use Rattle.solver.specs.declared.refusal.CallRefusal.TheVariants.{TooFewSteps}
 use Rattle.solver.specs.declared.log.Request.{Request}
 use Rattle.solver.specs.declared.log.Request.TheVariants.{Length, NewScan}
-use Rattle.solver.specs.declared.log.Reply.TheVariants.{Served, Refused, Renewed}
+use Rattle.solver.specs.declared.log.Done.TheVariants.{Served, Renewed}
 use Rattle.solver.specs.declared.log.Entry.{Entry}
 use Rattle.solver.specs.Sealing.{reserve}
 use Rattle.solver.specs.Log.{Next, Complete, length_entry, scan_entry, requests_of}
@@ -45,26 +45,26 @@ module _ {P : Type 0} (encoding : Encoding P) (source : Source) (allowance : ℕ
     where
       go : (b : Bool) → leb (reserve source) left ≡ b → Comes left (Length call)
       go true e = record {
-        entry = length_entry call (Served (length_of encoding source call));
+        entry = length_entry call (Ok (Served (length_of encoding source call)));
         after = left - (length_of encoding source call).count;
         next = serve call (leb-true (reserve source) left e);
         asks = refl;
       }
-      go false e = record { entry = length_entry call (Refused (TooFewSteps left)); after = left; next = refuse call (leb-false (reserve source) left e); asks = refl }
-  comes left NewScan = record { entry = scan_entry Renewed; after = allowance; next = renew; asks = refl }
+      go false e = record { entry = length_entry call (Err (TooFewSteps left)); after = left; next = refuse call (leb-false (reserve source) left e); asks = refl }
+  comes left NewScan = record { entry = scan_entry (Ok Renewed); after = allowance; next = renew; asks = refl }
 
   -- and no other
   same_next : (left : ℕ) (e : Entry P) (after : ℕ) (d : Entry P) (rest : ℕ) → Next encoding source allowance left e after → Next encoding source allowance left d rest
       → e.request ≡ d.request → (e ≡ d) × (after ≡ rest)
   same_next left e after d rest (serve a h) (serve b k) p =
       let q : a ≡ b = cc in
-      (ap (λ z. length_entry z (Served (length_of encoding source z))) q, ap (λ z. left - (length_of encoding source z).count) q)
+      (ap (λ z. length_entry z (Ok (Served (length_of encoding source z)))) q, ap (λ z. left - (length_of encoding source z).count) q)
   same_next left e after d rest (serve a h) (refuse b k) p = absurd (omega arith)
   same_next left e after d rest (serve a h) renew p = (cc, cc)
   same_next left e after d rest (refuse a h) (serve b k) p = absurd (omega arith)
   same_next left e after d rest (refuse a h) (refuse b k) p =
       let q : a ≡ b = cc in
-      (ap (λ z. length_entry z (Refused (TooFewSteps left))) q, refl)
+      (ap (λ z. length_entry z (Err (TooFewSteps left))) q, refl)
   same_next left e after d rest (refuse a h) renew p = (cc, cc)
   same_next left e after d rest renew (serve b k) p = (cc, cc)
   same_next left e after d rest renew (refuse b k) p = (cc, cc)

@@ -1,4 +1,5 @@
 pub mod Refusals
+pub mod Reply
 pub mod Sealing
 pub mod Serving
 pub mod Log

@@ -11,8 +11,8 @@ use Rattle.solver.specs.declared.states.Sealed.{Sealed}
 use Rattle.solver.specs.declared.states.SealRefused.{SealRefused}
 use Rattle.solver.specs.declared.log.Request.{Request}
 use Rattle.solver.specs.declared.log.Request.TheVariants.{Length, NewScan}
-use Rattle.solver.specs.declared.log.Reply.{Reply}
-use Rattle.solver.specs.declared.log.Reply.TheVariants.{Served, Refused, Renewed}
+use Rattle.solver.specs.Reply.{Reply}
+use Rattle.solver.specs.declared.log.Done.TheVariants.{Served, Renewed}
 use Rattle.solver.specs.declared.log.Entry.{Entry}
 use Rattle.solver.specs.Sealing.{reserve, sealing}
 use Rattle.solver.specs.Serving.{replied}
@@ -27,9 +27,9 @@ scan_entry reply = record { request = NewScan; reply = reply }
 -- steps left alone, and a new scan sets them back to the allowance
 pub data Next {P : Type 0} (encoding : Encoding P) (source : Source) (allowance left : ℕ) : Entry P → ℕ → Type 0 where
   serve : (call : Call P) → reserve source ≤ left
-      → Next encoding source allowance left (length_entry call (Served (length_of encoding source call))) (left - (length_of encoding source call).count)
-  refuse : (call : Call P) → left < reserve source → Next encoding source allowance left (length_entry call (Refused (TooFewSteps left))) left
-  renew : Next encoding source allowance left (scan_entry Renewed) allowance
+      → Next encoding source allowance left (length_entry call (Ok (Served (length_of encoding source call)))) (left - (length_of encoding source call).count)
+  refuse : (call : Call P) → left < reserve source → Next encoding source allowance left (length_entry call (Err (TooFewSteps left))) left
+  renew : Next encoding source allowance left (scan_entry (Ok Renewed)) allowance
 
 -- the log is complete and leaves so many steps: a sealing that was not refused opens it, and each entry is the next one of the
 -- solver as the entries before left it
@@ -64,7 +64,7 @@ told_call call result = told (Length call) (replied result)
 
 -- the entry of a new scan
 abbrev pub told_scan : {P : Type 0} → List (Entry P)
-told_scan = told NewScan Renewed
+told_scan = told NewScan (Ok Renewed)
 
 -- the requests of a log
 abbrev pub requests_of : {P : Type 0} → List (Entry P) → List (Request P)

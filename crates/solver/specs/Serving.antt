@@ -10,8 +10,8 @@ use Rattle.solver.specs.declared.refusal.CallRefusal.TheVariants.{TooFewSteps}
 use Rattle.solver.specs.declared.states.Sealed.{Sealed}
 use Rattle.solver.specs.declared.log.Request.{Request}
 use Rattle.solver.specs.declared.log.Request.TheVariants.{Length, NewScan}
-use Rattle.solver.specs.declared.log.Reply.{Reply}
-use Rattle.solver.specs.declared.log.Reply.TheVariants.{Served, Refused, Renewed}
+use Rattle.solver.specs.Reply.{Reply}
+use Rattle.solver.specs.declared.log.Done.TheVariants.{Served, Renewed}
 use Rattle.solver.specs.Sealing.{reserve}
 
 -- whether a length call is served with so many steps left; a source of a grade above 7 is never sealed
@@ -44,14 +44,14 @@ after_scan solver = with_steps_left solver solver.allowance
 
 -- what a length call returned, as a reply
 abbrev pub replied : {P : Type 0} → Result (Measured P) CallRefusal → Reply P
-replied (Ok measured) = Served measured
-replied (Err refusal) = Refused refusal
+replied (Ok measured) = Ok (Served measured)
+replied (Err refusal) = Err refusal
 
 -- any request
 module _ {F R P : Type 0} (encoding : Encoding P) (meaning : R → Source) (solver : Sealed F R) where
   abbrev pub reply_to : Request P → Reply P
   reply_to (Length call) = replied (call_result encoding meaning solver call)
-  reply_to NewScan = Renewed
+  reply_to NewScan = Ok Renewed
 
   abbrev pub after_request : Request P → Sealed F R
   after_request (Length call) = after_call encoding meaning solver call

@@ -13,19 +13,20 @@ pub enum Request<P> {
     NewScan,
 }
 
-/// What a sealed solver replies to a request.
-#[derive(Clone, Copy)]
-pub enum Reply<P> {
+/// What a sealed solver has done for a request.
+#[derive(Clone, Copy, PartialEq, Eq, Debug)]
+pub enum Done<P> {
+    /// the length of a call, with its count
     Served { measured: Measured<P> },
-    Refused { refusal: CallRefusal },
+    /// a new scan has the whole allowance left
     Renewed,
 }
 
-/// An entry of a log.
+/// An entry of a log: a request, and what was done for it or why it was refused.
 #[derive(Clone, Copy)]
 pub struct Entry<P> {
     pub request: Request<P>,
-    pub reply: Reply<P>,
+    pub reply: Result<Done<P>, CallRefusal>,
 }
 
 /// Every complete log keeps the law, and every list of requests to a solver that can be sealed has

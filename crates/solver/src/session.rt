@@ -39,6 +39,7 @@ pub fn keep_log<F: NumberForm, R: RootSource>(
     ensures requests { IfOk result (λ s. requests_of s.log.items ≡ requests.now) }
     ensures back { MatchResult result (λ s. s.solver ≡ solver) (λ e. NotKept R.RootSource.meaning solver allowance e) }
 {
+    // By `match`, since `?` would ask that the form and the source are `Drop`.
     let mut sealed = match solver.seal(allowance) {
         Ok(sealed) => sealed,
         Err(refused) => return Err(NoSession::Sealing { refused }),

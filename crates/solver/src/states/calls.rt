@@ -10,7 +10,7 @@ ghost use Rattle.solver.specs.Sealing.{reserve as reserve_of};
 ghost use Rattle.solver.specs.Serving.{serves, call_result, after_call, after_scan, reply_to, after_request};
 ghost use Rattle.solver.specs.Log.{Logs, told_call, told_scan, told};
 
-use crate::log::{Reply, Request};
+use crate::log::{Done, Request};
 use crate::refusal::CallRefusal;
 use crate::states::{Sealed, reserve};
 use forms::number_form::NumberForm;
@@ -77,19 +77,19 @@ impl<F: NumberForm, R: RootSource> Sealed<F, R> {
     }
 
     /// The reply to any request.
-    pub fn answer(&mut self, request: Request<F::Pattern>) -> Reply<F::Pattern>
+    pub fn answer(&mut self, request: Request<F::Pattern>) -> Result<Done<F::Pattern>, CallRefusal>
         ensures value { result ≡ reply_to F.NumberForm.encoding R.RootSource.meaning self.old request }
         ensures after { self.new ≡ after_request F.NumberForm.encoding R.RootSource.meaning self.old request }
         ensures log { Logs F.NumberForm.encoding R.RootSource.meaning self.old (told request result) self.new }
     {
         match request {
-            Request::Length { call } => match self.measure(call) {
-                Ok(measured) => Reply::Served { measured },
-                Err(refusal) => Reply::Refused { refusal },
-            },
+            Request::Length { call } => {
+                let measured = self.measure(call)?;
+                Ok(Done::Served { measured })
+            }
             Request::NewScan => {
                 self.new_scan();
-                Reply::Renewed
+                Ok(Done::Renewed)
             }
         }
     }
