@@ -1,8 +1,8 @@
 -- A number below 2 ^ 53 brought to 53 bits: its leading bit at place j goes up by 52 - j places, which the zeros above it count.
-use Rattle.std.proofs.Common.{◌≡◌, ℕ, suc, ◌+◌, ◌-◌, ◌*◌, ◌%◌, ◌^◌, ◌<◌, ◌≤◌, sym, ap, ◌∙◌, subst, le_trans, le_of_eq, lt_of_lt_of_le, le_of_suc-le-suc, mul-le-mul_right, mod-eq_of_lt, mul-lt-mul_of_pos_right, lt_of_not-le, not-le_of_lt, arith, pow_pos, pow_mono, pow-add}
+use Rattle.std.proofs.Common.{◌≡◌, ℕ, suc, ◌+◌, ◌-◌, ◌*◌, ◌%◌, ◌^◌, ◌<◌, ◌≤◌, sym, ap, ◌∙◌, le_trans, le_of_eq, lt_of_lt_of_le, le_of_suc-le-suc, mul-le-mul_right, mod-eq_of_lt, mul-lt-mul_of_pos_right, lt_of_not-le, not-le_of_lt, arith, pow_pos, pow_mono, pow-add}
 use lib.Count.{count_leading_zeros}
 use Rattle.std.proofs.lemmas.Nat.{leading_top}
-use Rattle.head.specs.Side.{Full, spare_places}
+use Rattle.head.specs.Side.{Full}
 
 pub record Moved (k zeros : ℕ) : Type 0 where
   pub room : 11 ≤ zeros
@@ -22,10 +22,3 @@ moved_from k zeros j h e lo hi =
 
 pub moved : (k : ℕ) → 0 < k → k < 2 ^ 53 → Moved k (count_leading_zeros 64 k)
 moved k p h = let t = leading_top 64 k p (omega arith) in moved_from k (count_leading_zeros 64 k) t.0 h t.1 t.2 t.3
-
--- what the code moves up
-pub moved_full : (k m j : ℕ) → 0 < k → k < 2 ^ 53 → m ≡ k * 2 ^ spare_places k % 2 ^ 64 → j ≡ spare_places k → Full m × (m ≡ k * 2 ^ j) × (j ≤ 52)
-moved_full k m j p h e d =
-    let z = moved k p h in
-    let v : m ≡ k * 2 ^ spare_places k = e ∙ z.whole in
-    (subst Full (sym v) z.full, v ∙ ap (λ (x : ℕ). k * 2 ^ x) (sym d), subst (λ (x : ℕ). x ≤ 52) (sym d) z.bound)

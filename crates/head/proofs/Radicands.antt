@@ -28,7 +28,7 @@ squared_side m d f l =
 largest_one : (m : ℕ) → Full m → unit ≤ m * step 0
 largest_one m f = side_one m (step 0) (2 ^ 0) f (span 0 (lit≤ tt)) (lit≤ tt)
 
-pub sum_ordinary : (h : Float) (error exact : ℕ) → Sum h error exact → Ordinary h
+sum_ordinary : (h : Float) (error exact : ℕ) → Sum h error exact → Ordinary h
 sum_ordinary h error exact s = record { count = s.count; holds = s.holds; least = omega (arith, s.least); most = omega (arith, s.most) }
 
 -- Two sides, in the head of two or with a third that is left out.
@@ -36,6 +36,9 @@ sum_ordinary h error exact s = record { count = s.count; holds = s.holds; least 
 module _ (m n d : ℕ) (f : Full m) (g : Full n) (l : d ≤ 28) where
   pub two_sides_sum : Sum (two_radicand m n d) 5 (m * step 0 * (m * step 0) + n * step d * (n * step d))
   two_sides_sum = two_sum (scaled_side m 0) (scaled_side n d) (m * step 0) (n * step d) (squared_side m 0 f (lit≤ tt)) (squared_side n d g l) (largest_one m f)
+
+  pub two_ordinary : Ordinary (two_radicand m n d)
+  two_ordinary = sum_ordinary _ _ _ two_sides_sum
 
   module _ (w a : ℕ) (h : Heads (two_radicand m n d) w a) where
     abbrev R : ℕ
@@ -83,6 +86,9 @@ module _ (m n d k e : ℕ) (f : Full m) (g : Full n) (l : d ≤ 28) (j : Full k)
   pub three_sides_sum : Sum (three_radicand m n d k e) 7 (m * step 0 * (m * step 0) + n * step d * (n * step d) + k * step e * (k * step e))
   three_sides_sum =
       three_sum (scaled_side m 0) (scaled_side n d) (m * step 0) (n * step d) (squared_side m 0 f (lit≤ tt)) (squared_side n d g l) (largest_one m f) (scaled_side k e) (k * step e) (squared_side k e j o)
+
+  pub three_ordinary : Ordinary (three_radicand m n d k e)
+  three_ordinary = sum_ordinary _ _ _ three_sides_sum
 
   pub three_near : (w a : ℕ) → Heads (three_radicand m n d k e) w a → NearRoot (three_exact m n d k e) (52 + d + e) w a
   three_near w a h =

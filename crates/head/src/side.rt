@@ -1,13 +1,13 @@
 //! Sides as floats, from significands of 53 bits.
-ghost use Rattle.std.specs.Prelude.{◌≡◌, ◌*◌, ◌%◌, ◌^◌, ◌<◌, ◌≤◌};
-ghost use Rattle.std.specs.Int.Count.{count_leading_zeros};
-ghost use Rattle.head.specs.Side.{Full, spare_places, scaled_side, side_pattern};
+ghost use Rattle.std.specs.Prelude.{◌≡◌, ◌*◌, ◌^◌, ◌<◌, ◌≤◌};
+ghost use Rattle.head.specs.Side.{Full, scaled_side, side_pattern};
 
 /// A significand of exactly 53 bits, and by how many binary places it was moved up.
 #[derive(Clone, Copy)]
 pub struct FullSignificand {
     pub significand: u64,
     pub moved: u32,
+    ghost full: { Full significand },
 }
 
 /// A short significand with its leading bit brought to place 52. For inner callers, which see to it
@@ -15,19 +15,10 @@ pub struct FullSignificand {
 pub fn full_length(k: u64) -> FullSignificand
     requires some { 0 < k }
     requires short { k < 2 ^ 53 }
-    ensures full { Full result.significand }
     ensures value { result.significand ≡ k * 2 ^ result.moved }
     ensures bound { result.moved ≤ 52 }
 {
-    moved_up(k)
-}
-
-// The significand moved up by all but 11 of the zeros above its leading bit.
-fn moved_up(k: u64) -> FullSignificand
-    requires { 11 ≤ count_leading_zeros 64 k }
-    ensures significand { result.significand ≡ k * 2 ^ spare_places k % 2 ^ 64 }
-    ensures moved { result.moved ≡ spare_places k }
-{
+    // a significand may be moved up by all but 11 of the zeros above its leading bit
     let moved = k.leading_zeros() - 11;
     FullSignificand {
         significand: k << moved,
@@ -35,23 +26,31 @@ fn moved_up(k: u64) -> FullSignificand
     }
 }
 
-/// The side `m * 2^-(52 + below)`. For inner callers, which see to it that `m` has 53 bits and that
-/// at most 28 places are below.
-pub fn scaled(m: u64, below: u64) -> f64
-    requires full { Full m }
-    requires close { below ≤ 28 }
-    ensures { result ≡ scaled_side m below }
-{
-    f64::from_bits(scaled_pattern(m, below))
+/// A side near the largest one: `significand * 2^-(52 + below)`, with a significand of exactly 53 bits,
+/// where the largest side lies from 1 to 2.
+#[derive(Clone, Copy)]
+pub struct NearSide {
+    pub significand: u64,
+    /// how many binary places its leading bit lies below that of the largest side
+    pub below: u32,
+    ghost full: { Full significand },
+    ghost close: { below ≤ 28 },
 }
 
-// The bit pattern of a scaled side.
-fn scaled_pattern(m: u64, below: u64) -> u64
-    requires full { m < 2 ^ 53 }
-    requires close { below ≤ 28 }
-    ensures { result ≡ side_pattern m below }
-{
-    (1022 - below) * 0x10_0000_0000_0000 + m
+impl NearSide {
+    /// The side as a float.
+    pub fn scaled(self) -> f64
+        ensures { result ≡ scaled_side self.significand self.below }
+    {
+        f64::from_bits(self.pattern())
+    }
+
+    // The bit pattern of the scaled side.
+    fn pattern(self) -> u64
+        ensures { result ≡ side_pattern self.significand self.below }
+    {
+        u64::from(1022 - self.below) * 0x10_0000_0000_0000 + self.significand
+    }
 }
 
 #[cfg(test)]

@@ -7,7 +7,7 @@ ghost use Rattle.head.specs.Head.{Heads, Ordinary, HeadExists, HeadIsUnique, Hea
 #[derive(Clone, Copy)]
 pub struct Head {
     pub word: u64,
-    pub places: u64,
+    pub places: u32,
 }
 
 /// The head of `h`. For inner callers, which see to it that `h` lies from 2^-83 to 128.
@@ -35,11 +35,11 @@ fn word_of(bits: u64) -> u64
 }
 
 // How often the word is to be quartered.
-fn places_of(bits: u64) -> u64
+fn places_of(bits: u64) -> u32
     requires { bits / 2 ^ 52 ≤ 1086 }
     ensures { result ≡ pattern_places bits }
 {
-    (1086 - bits / 0x10_0000_0000_0000) / 2
+    ((1086 - bits / 0x10_0000_0000_0000) / 2) as u32
 }
 
 /// Every number of binary64 from 2^-83 to 128 has a head, no float has two, and it is the computed

@@ -19,10 +19,14 @@ near_whole n d u v cut h s t =
     ap (λ (x : ℕ). u * x) (four_is d) ∙ ap (λ (x : ℕ). x * 2 ^ (2 * d)) i ∙ sym e ∙ s
 
 -- what is left over a power of four is no larger
-pub at_most : (u d v : ℕ) → u * 4 ^ d ≡ v → u ≤ v
+at_most : (u d v : ℕ) → u * 4 ^ d ≡ v → u ≤ v
 at_most u d v e = omega (arith, e, mul-le-mul_left u (four_pos d))
 
--- and so is what a cut leaves
+-- the sum of the squares of near sides
+pub near_bound : (m n d a u : ℕ) → m < 2 ^ 53 → n < 2 ^ 53 → a ≡ m * m * 2 ^ 56 → u * 4 ^ d ≡ n * n * 2 ^ 56 → a + u < 2 ^ 163
+near_bound m n d a u f g A U = omega (arith, A, square_bound m f, square_bound n g, at_most u d _ U)
+
+-- what a cut leaves is no larger either
 pub cut_at_most : (t v m : ℕ) (cut : Bool) → Truncates t cut v m → t ≤ v
 cut_at_most t v m cut h = let p : 1 ≤ m = omega (arith, h.short) in omega (arith, h.whole, mul-le-mul_left t p)
 

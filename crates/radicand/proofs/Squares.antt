@@ -1,5 +1,5 @@
 -- The square of a number in two parts of at most 27 bits: the square of the upper part and the middle product are split between the two limbs.
-use Rattle.std.proofs.Common.{◌≡◌, ℕ, ◌+◌, ◌-◌, ◌*◌, ◌/◌, ◌%◌, ◌^◌, ◌<◌, ◌≤◌, ap, mul-le-mul, arith}
+use Rattle.std.proofs.Common.{◌≡◌, ℕ, ◌+◌, ◌*◌, ◌/◌, ◌%◌, ◌^◌, ◌<◌, ap, arith}
 use Rattle.radicand.specs.Limbs.{three}
 
 module _ (m : ℕ) (M : m < 2 ^ 53) where
@@ -8,12 +8,6 @@ module _ (m : ℕ) (M : m < 2 ^ 53) where
 
   abbrev b : ℕ
   b = m % 2 ^ 27
-
-  pub products : (a * a ≤ (2 ^ 26 - 1) * (2 ^ 26 - 1)) × (a * b ≤ (2 ^ 26 - 1) * (2 ^ 27 - 1)) × (b * b ≤ (2 ^ 27 - 1) * (2 ^ 27 - 1))
-  products =
-      let x : a ≤ 2 ^ 26 - 1 = omega arith in
-      let y : b ≤ 2 ^ 27 - 1 = omega arith in
-      (mul-le-mul x x, mul-le-mul x y, mul-le-mul y y)
 
   abbrev low : ℕ
   low = b * b + a * b % 2 ^ 28 * 2 ^ 28 + a * a % 4 * 2 ^ 54

@@ -5,125 +5,120 @@
 //! of `significand^2 / 4^below`. Squares that lie at most 28 places below are whole in units of `2^-56`;
 //! of one that lies farther, all that is lost is told by one bit.
 ghost use Rattle.std.specs.Prelude.{◌≡◌, ℕ, ◌+◌, ◌*◌, ◌^◌, ◌<◌, ◌≤◌};
-ghost use Rattle.radicand.specs.Limbs.{units, Counts, Held};
-ghost use Rattle.radicand.specs.Sides.{two_squares, three_squares, leg_square, head_scaled, denominator};
-ghost use Rattle.radicand.specs.Stands.{Stands};
 
 use crate::limbs::{far, lower, minus, plus, plus_cut, squared};
 use crate::scale::scaled;
 use crate::wide::{Truncated, Wide};
 use crate::words::Radicand;
 
-/// A side that is not the largest. Near is one that lies at most 28 places below.
+/// A side that is not the largest.
 #[derive(Clone, Copy)]
 pub struct Side {
     pub significand: u64,
     /// how many binary places it lies below the largest side
     pub below: u32,
+    ghost short: { significand < 2 ^ 53 },
 }
 
-/// The radicand of two sides, for a caller whose sides are near, in the scale of a head of 30 or 31
-/// places.
-pub fn sum_of_two(largest: u64, other: Side, places: u32) -> Radicand
-    requires largest { largest < 2 ^ 53 }
-    requires other { other.significand < 2 ^ 53 }
-    requires near { other.below ≤ 28 }
-    requires least { 30 ≤ places }
-    requires most { places ≤ 31 }
-    ensures { Stands result (head_scaled (two_squares largest other.significand other.below) places) (denominator other.below) }
-{
-    scaled(two_squares(largest, other), places)
+/// The largest side and a near one, which lies at most 28 places below.
+#[derive(Clone, Copy)]
+pub struct NearSides {
+    /// the significand of the largest side
+    pub largest: u64,
+    pub other: Side,
+    ghost short: { largest < 2 ^ 53 },
+    ghost near: { other.below ≤ 28 },
 }
 
-/// The radicand of three sides, the third of them as far as it may be, for a caller whose first two are
-/// near, in the scale of a head of 30 or 31 places.
-pub fn sum_of_three(largest: u64, other: Side, third: Side, places: u32) -> Radicand
-    requires largest { largest < 2 ^ 53 }
-    requires other { other.significand < 2 ^ 53 }
-    requires third { third.significand < 2 ^ 53 }
-    requires near { other.below ≤ 28 }
-    requires least { 30 ≤ places }
-    requires most { places ≤ 31 }
-    ensures { Stands result (head_scaled (three_squares largest other.significand other.below third.significand third.below) places) (denominator (other.below + third.below)) }
-{
-    scaled(three_squares(largest, other, third), places)
+/// The scale of a head: how often its word is to be quartered.
+#[derive(Clone, Copy)]
+pub struct HeadScale {
+    pub places: u32,
+    ghost least: { 30 ≤ places },
+    ghost most: { places ≤ 57 },
 }
 
-/// The radicand of the other leg, for a caller whose hypotenuse is longer than the leg and near it, in
-/// the scale of a head of 30 to 57 places at which the words hold it.
-pub fn difference(hypotenuse: u64, leg: Side, places: u32) -> Radicand
-    requires hypotenuse { hypotenuse < 2 ^ 53 }
-    requires leg { leg.significand < 2 ^ 53 }
-    requires near { leg.below ≤ 28 }
-    requires longer { leg.significand < hypotenuse * 2 ^ leg.below }
-    requires least { 30 ≤ places }
-    requires most { places ≤ 57 }
-    requires held { head_scaled (leg_square hypotenuse leg.significand leg.below) places < 2 ^ 130 * denominator leg.below }
-    ensures { Stands result (head_scaled (leg_square hypotenuse leg.significand leg.below) places) (denominator leg.below) }
-{
-    scaled(leg_square(hypotenuse, leg), places)
-}
+impl NearSides {
+    ghost use Rattle.radicand.specs.Limbs.{units, Counts, Held};
+    ghost use Rattle.radicand.specs.Sides.{two_squares, three_squares, leg_square, head_scaled, denominator};
+    ghost use Rattle.radicand.specs.Stands.{Stands};
 
-// The sum of the squares of the largest side and a near one.
-fn two_squares(largest: u64, other: Side) -> Truncated
-    requires largest { largest < 2 ^ 53 }
-    requires other { other.significand < 2 ^ 53 }
-    requires near { other.below ≤ 28 }
-    ensures value { Counts result (two_squares largest other.significand other.below) other.below }
-    ensures held { (places : ℕ) → places ≤ 31 → Held result places }
-{
-    Truncated {
-        wide: near_sum(largest, other),
-        cut: false,
+    /// The radicand of the two sides, in the scale of a head of 30 or 31 places.
+    pub fn sum_of_two(self, scale: HeadScale) -> Radicand
+        requires { scale.places ≤ 31 }
+        ensures { Stands result (head_scaled (two_squares self.largest self.other.significand self.other.below) scale.places) (denominator self.other.below) }
+    {
+        scaled(self.two_squares(), scale.places)
     }
-}
 
-// The sum of the squares of the largest side, a near one, and a third, the only one that can be cut.
-fn three_squares(largest: u64, other: Side, third: Side) -> Truncated
-    requires largest { largest < 2 ^ 53 }
-    requires other { other.significand < 2 ^ 53 }
-    requires third { third.significand < 2 ^ 53 }
-    requires near { other.below ≤ 28 }
-    ensures value { Counts result (three_squares largest other.significand other.below third.significand third.below) (other.below + third.below) }
-    ensures held { (places : ℕ) → places ≤ 31 → Held result places }
-{
-    let square = far(squared(third.significand), third.below);
-    plus_cut(near_sum(largest, other), square)
-}
-
-// The square of the hypotenuse less that of a near leg.
-fn leg_square(hypotenuse: u64, leg: Side) -> Truncated
-    requires hypotenuse { hypotenuse < 2 ^ 53 }
-    requires leg { leg.significand < 2 ^ 53 }
-    requires near { leg.below ≤ 28 }
-    requires longer { leg.significand < hypotenuse * 2 ^ leg.below }
-    ensures value { Counts result (leg_square hypotenuse leg.significand leg.below) leg.below }
-    ensures held { (places : ℕ) → places ≤ 57 → head_scaled (leg_square hypotenuse leg.significand leg.below) places < 2 ^ 130 * denominator leg.below → Held result places }
-{
-    Truncated {
-        wide: minus(squared(hypotenuse), near_square(leg)),
-        cut: false,
+    /// The radicand of the two sides and a third at any distance, in the scale of a head of 30 or 31 places.
+    pub fn sum_of_three(self, third: Side, scale: HeadScale) -> Radicand
+        requires { scale.places ≤ 31 }
+        ensures { Stands result (head_scaled (three_squares self.largest self.other.significand self.other.below third.significand third.below) scale.places) (denominator (self.other.below + third.below)) }
+    {
+        // a third side of no length adds nothing, as in every hypotenuse over two legs
+        if third.significand == 0 {
+            return self.sum_of_two(scale);
+        }
+        scaled(self.three_squares(third), scale.places)
     }
-}
 
-// The sum of two squares, which is whole in units.
-fn near_sum(largest: u64, other: Side) -> Wide
-    requires largest { largest < 2 ^ 53 }
-    requires other { other.significand < 2 ^ 53 }
-    requires near { other.below ≤ 28 }
-    ensures value { units result * 4 ^ other.below ≡ two_squares largest other.significand other.below * 2 ^ 56 }
-    ensures bound { units result < 2 ^ 163 }
-{
-    plus(squared(largest), near_square(other))
-}
+    /// The radicand of a leg, for a caller whose largest side is the hypotenuse and longer than the other
+    /// leg, in the scale of a head at which the words hold it.
+    pub fn difference(self, scale: HeadScale) -> Radicand
+        requires longer { self.other.significand < self.largest * 2 ^ self.other.below }
+        requires held { head_scaled (leg_square self.largest self.other.significand self.other.below) scale.places < 2 ^ 130 * denominator self.other.below }
+        ensures { Stands result (head_scaled (leg_square self.largest self.other.significand self.other.below) scale.places) (denominator self.other.below) }
+    {
+        scaled(self.leg_square(), scale.places)
+    }
 
-// The square of a near side, which is whole in units.
-fn near_square(side: Side) -> Wide
-    requires short { side.significand < 2 ^ 53 }
-    requires near { side.below ≤ 28 }
-    ensures { units result * 4 ^ side.below ≡ side.significand * side.significand * 2 ^ 56 }
-{
-    lower(squared(side.significand), 2 * side.below).wide
+    // The sum of the squares of the two sides.
+    fn two_squares(self) -> Truncated
+        ensures value { Counts result (two_squares self.largest self.other.significand self.other.below) self.other.below }
+        ensures held { (places : ℕ) → places ≤ 31 → Held result places }
+    {
+        Truncated {
+            wide: self.near_sum(),
+            cut: false,
+        }
+    }
+
+    // The sum of the squares of the two sides and a third, the only one that can be cut.
+    fn three_squares(self, third: Side) -> Truncated
+        ensures value { Counts result (three_squares self.largest self.other.significand self.other.below third.significand third.below) (self.other.below + third.below) }
+        ensures held { (places : ℕ) → places ≤ 31 → Held result places }
+    {
+        let square = far(squared(third.significand), third.below);
+        plus_cut(self.near_sum(), square)
+    }
+
+    // The square of the hypotenuse less that of the leg.
+    fn leg_square(self) -> Truncated
+        requires { self.other.significand < self.largest * 2 ^ self.other.below }
+        ensures value { Counts result (leg_square self.largest self.other.significand self.other.below) self.other.below }
+        ensures held { (places : ℕ) → places ≤ 57 → head_scaled (leg_square self.largest self.other.significand self.other.below) places < 2 ^ 130 * denominator self.other.below → Held result places }
+    {
+        Truncated {
+            wide: minus(squared(self.largest), self.near_square()),
+            cut: false,
+        }
+    }
+
+    // The sum of the two squares, which is whole in units.
+    fn near_sum(self) -> Wide
+        ensures value { units result * 4 ^ self.other.below ≡ two_squares self.largest self.other.significand self.other.below * 2 ^ 56 }
+        ensures bound { units result < 2 ^ 163 }
+    {
+        plus(squared(self.largest), self.near_square())
+    }
+
+    // The square of the near side, which is whole in units.
+    fn near_square(self) -> Wide
+        ensures { units result * 4 ^ self.other.below ≡ self.other.significand * self.other.significand * 2 ^ 56 }
+    {
+        lower(squared(self.other.significand), 2 * self.other.below).wide
+    }
 }
 
 #[cfg(test)]
@@ -133,16 +128,27 @@ mod tests {
 
     const ONE: u64 = 1 << 52;
 
-    fn side(significand: u64, below: u32) -> Side
-        ensures { (result.significand ≡ significand) × (result.below ≡ below) }
+    const SIDE: Side = Side {
+        significand: ONE,
+        below: 0,
+    };
+
+    const SCALE: HeadScale = HeadScale { places: 31 };
+
+    fn beside_one(other: Side) -> NearSides
+        requires { other.below ≤ 28 }
+        ensures { (result.largest ≡ 2 ^ 52) × (result.other ≡ other) }
     {
-        Side { significand, below }
+        NearSides {
+            largest: ONE,
+            other,
+        }
     }
 
     #[test]
     fn two_equal_sides(rt: HostRuntime) {
         // 2 * 4^53 is the radicand of 1 and 1 at 31 places
-        let radicand = sum_of_two(ONE, side(ONE, 0), 31);
+        let radicand = beside_one(SIDE).sum_of_two(SCALE);
         assert_eq!(rt; radicand.hi, 1 << 43);
         assert_eq!(rt; radicand.lo, 0);
         assert_eq!(rt; radicand.bits, 0);
@@ -152,11 +158,11 @@ mod tests {
     #[test]
     fn the_leg_of_five_and_four(rt: HostRuntime) -> Result<(), Fail> {
         // 9 / 16 in the scale of the hypotenuse, so (3 * 2^52)^2 at 32 places
-        let leg = Side {
-            significand: ONE,
-            below: 0,
+        let sides = NearSides {
+            largest: 5 << 50,
+            other: SIDE,
         };
-        let radicand = difference(5 << 50, leg, 32);
+        let radicand = sides.difference(HeadScale { places: 32 });
         assert_eq!(rt; radicand.hi, 9 << 40);
         assert_eq!(rt; radicand.lo, 0);
         assert_eq!(rt; radicand.bits, 0);
@@ -166,7 +172,11 @@ mod tests {
 
     #[test]
     fn a_side_at_the_edge_is_cut(rt: HostRuntime) {
-        let radicand = sum_of_two(ONE, side(2 * ONE - 1, 28), 31);
+        let edge = Side {
+            significand: 2 * ONE - 1,
+            below: 28,
+        };
+        let radicand = beside_one(edge).sum_of_two(SCALE);
         assert_eq!(rt; radicand.hi, 1 << 42);
         assert_eq!(rt; radicand.lo, ONE - 1);
         assert_eq!(rt; radicand.bits, 0);
@@ -175,7 +185,11 @@ mod tests {
 
     #[test]
     fn a_far_third_side_is_only_a_cut(rt: HostRuntime) {
-        let radicand = sum_of_three(ONE, side(ONE, 0), side(ONE, u32::MAX), 31);
+        let far = Side {
+            significand: ONE,
+            below: u32::MAX,
+        };
+        let radicand = beside_one(SIDE).sum_of_three(far, SCALE);
         assert_eq!(rt; radicand.hi, 1 << 43);
         assert_eq!(rt; radicand.lo, 0);
         assert_eq!(rt; radicand.bits, 0);

@@ -1,40 +1,13 @@
 -- One fraction written in two ways, x / C and n / D: what words stand for and how near a root is do not depend on the way.
-use mathlib.Core.Path.{◌≡◌, sym, ap, ◌∙◌}
-use Prim.Native.Nat.{ℕ, ◌+◌, ◌*◌, ◌/◌, ◌%◌, ◌^◌, ◌≤◌, ◌<◌}
-use native.Mathlib.Nat.{le_of_mul-le-mul_right, lt_of_mul-lt-mul_right, mul-le-mul_right, mul-le-mul, mul-lt-mul_of_pos_right, eq_of_mul-eq-mul_right, div-add-mod', mod-lt}
+use mathlib.Core.Path.{◌≡◌, ap, ◌∙◌}
+use Prim.Native.Nat.{ℕ, ◌+◌, ◌*◌, ◌/◌, ◌^◌, ◌≤◌, ◌<◌}
+use native.Mathlib.Nat.{le_of_mul-le-mul_right, lt_of_mul-lt-mul_right, mul-le-mul_right, mul-le-mul, mul-lt-mul_of_pos_right, div-add-mod', mod-lt}
 use native.Mathlib.Omega.{arith}
 use lib.Pow.{pow-add}
-use lib.Ieee.Nearest.{div_same}
 use Rattle.exact.specs.Root.{isqrt}
 use Rattle.exact.proofs.Roots.{isqrt_is}
 use Rattle.exact.proofs.Squares.{four_pos, lt_of_squares}
 use Rattle.head.specs.Bound.{FloorRootOf, NearRoot}
-use Rattle.radicand.specs.declared.words.Radicand.{Radicand}
-use Rattle.radicand.specs.Stands.{Stands}
-
--- a number is divisible where its quotient times the divisor is the number
-divisible : (v m : ℕ) → 0 < m → v % m ≡ 0 → v / m * m ≡ v
-divisible v m p z = omega (arith, div-add-mod' v m, z)
-
-no_rest : (v m q : ℕ) → 0 < m → v / m ≡ q → v ≡ q * m → v % m ≡ 0
-no_rest v m q p e f = omega (arith, div-add-mod' v m, ap (λ (x : ℕ). x * m) e)
-
-module _ (v m w l : ℕ) (M : 0 < m) (L : 0 < l) (e : v * l ≡ w * m) where
-  rest_too : v % m ≡ 0 → w % l ≡ 0
-  rest_too z =
-      let q = v / m in
-      let a : q * m ≡ v = divisible v m M z in
-      let b : w * m ≡ q * l * m = omega (arith, sym e, ap (λ (x : ℕ). x * l) a) in
-      no_rest w l q L (sym (div_same v m w l M L e)) (eq_of_mul-eq-mul_right m M w (q * l) b)
-
-pub stands_for : (r : Radicand) (v m w l : ℕ) → 0 < l → v * l ≡ w * m → Stands r v m → Stands r w l
-stands_for r v m w l L e s = record {
-  positive = L;
-  bits_short = s.bits_short;
-  floor = sym (div_same v m w l s.positive L e) ∙ s.floor;
-  is_cut = λ c z. s.is_cut c (rest_too w l v m L s.positive (sym e) z);
-  not_cut = λ c. rest_too v m w l s.positive L e (s.not_cut c);
-}
 
 module _ (x C n D : ℕ) (E : x * D ≡ n * C) (P : 0 < C) (Q : 0 < D) where
   -- both over the same scale A

@@ -1,6 +1,6 @@
 -- The tests of the code on bits and significands are those on magnitudes.
 use mathlib.Core.Path.{◌≡◌, refl, sym}
-use mathlib.Core.Bool.{Bool, true, false, cond}
+use mathlib.Core.Bool.{Bool, true, false}
 use Prim.Native.Nat.{◌+◌, ◌*◌, ◌^◌, ◌≤◌, ◌<◌}
 use native.Mathlib.Omega.{arith}
 use lib.Dec.{ltb, eqb}
@@ -8,12 +8,12 @@ use borrow.Author.Tests.{eq-eqb, ne_eqb, eqb-true, eqb-false}
 use Rattle.exact.proofs.Squares.{lt_unless}
 use Rattle.sides.specs.declared.side.Side.{Side}
 use Rattle.sides.specs.Order.{side_units, is_far}
-use Rattle.sides.proofs.Sizes.{AtBits, at_bits, at_bits_more, in_order, zero_significand, zero_magnitude}
+use Rattle.sides.proofs.Sizes.{AtBits, at_bits, at_bits_more, pair_lt, in_order, zero_significand, zero_magnitude}
 
 pub side_at : (s : Side) → AtBits (side_units s) s.significand s.bits
 side_at s = at_bits (side_units s) s.significand s.bits s.sized
 
-pub shorter : (s t : Side) → cond (eqb s.bits t.bits) (ltb s.significand t.significand) (ltb s.bits t.bits) ≡ ltb (side_units s) (side_units t)
+pub shorter : (s t : Side) → pair_lt s.bits s.significand t.bits t.significand ≡ ltb (side_units s) (side_units t)
 shorter s t = in_order (side_units s) s.significand s.bits (side_units t) t.significand t.bits (side_at s) (side_at t)
 
 -- a side has no length exactly where it has no significand
@@ -25,7 +25,7 @@ zero_test s = go (eqb s.significand 0) refl
     go false e = sym (ne_eqb (side_units s) 0 (λ z. eqb-false s.significand 0 e (zero_magnitude (side_units s) s.significand s.bits (side_at s) z)))
 
 pub far : (s t : Side) → eqb (side_units s) 0 ≡ false
-    → cond (eqb (s.bits + 27) t.bits) (ltb s.significand t.significand) (ltb (s.bits + 27) t.bits) ≡ is_far (side_units t) (side_units s)
+    → pair_lt (s.bits + 27) s.significand t.bits t.significand ≡ is_far (side_units t) (side_units s)
 far s t e =
     let some : 0 < side_units s = let d : side_units s ≡ 0 → ⊥ = eqb-false (side_units s) 0 e in lt_unless 0 (side_units s) (λ (h : side_units s ≤ 0). d (omega arith)) in
     in_order (side_units s * 2 ^ 27) s.significand (s.bits + 27) (side_units t) t.significand t.bits

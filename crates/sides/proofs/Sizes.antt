@@ -3,15 +3,17 @@
 use mathlib.Core.Path.{◌≡◌, refl, sym, ap, ◌∙◌, subst}
 use mathlib.Core.Bool.{Bool, true, false, cond}
 use Prim.Native.Nat.{ℕ, ◌+◌, ◌-◌, ◌*◌, ◌^◌, ◌≤◌, ◌<◌}
-use native.Mathlib.Nat.{le_trans, lt_of_lt_of_le, lt_of_not-le, not-le_of_lt, le_antisymm, le_of_mul-le-mul_right, lt_of_mul-lt-mul_right, mul-lt-mul_of_pos_right, mul-le-mul_right, mul_assoc}
+use native.Mathlib.Nat.{le_of_lt, le_trans, lt_of_lt_of_le, lt_of_not-le, not-le_of_lt, le_antisymm, le_of_mul-le-mul_right, lt_of_mul-lt-mul_right, mul-lt-mul_of_pos_right, mul-le-mul_right, mul_assoc}
 use native.Mathlib.Omega.{arith}
 use lib.Dec.{ltb, eqb}
 use lib.Pow.{pow-add, pow_pos, pow_mono}
 use lib.Ieee.{size}
 use lib.Ieee.Digits.{size-lt, size-le, size_reaches}
 use borrow.Author.Tests.{lt-ltb, le-ltb, ltb-true, ltb-false, eqb-true, eqb-false}
+use Rattle.std.proofs.Common.{Some, Less, Equal, Greater}
+use Rattle.std.specs.Ordering.{is_lt, is_some_and, partial_ordering_then, nat_cmp}
 use Rattle.exact.specs.Value.{units}
-use Rattle.exact.proofs.Squares.{le_unless, two_half, two_le}
+use Rattle.exact.proofs.Squares.{le_unless, lt_unless, two_half, two_le}
 use Rattle.head.specs.Side.{Full}
 use Rattle.sides.specs.Sized.{Sized}
 
@@ -75,23 +77,29 @@ module _ (u m a v n b : ℕ) (p : AtBits u m a) (q : AtBits v n b) where
       let y : n * 2 ^ a ≡ v * 2 ^ 53 = ap (λ (z : ℕ). n * 2 ^ z) e ∙ q.scale in
       le_of_mul-le-mul_right {k = 2 ^ 53} (omega (arith, x, y, p.scale)) (omega arith)
 
+-- `<` on pairs of numbers
+abbrev pub pair_lt : ℕ → ℕ → ℕ → ℕ → Bool
+pair_lt a m b n = is_some_and is_lt (partial_ordering_then (Some (nat_cmp a b)) (Some (nat_cmp m n)))
+
 module _ (u m a v n b : ℕ) (p : AtBits u m a) (q : AtBits v n b) where
-  by_significands : a ≡ b → (t : Bool) → ltb m n ≡ t → ltb m n ≡ ltb u v
-  by_significands e true t = t ∙ sym (lt-ltb u v (same_bits_less u m a v n b p q e (ltb-true m n t)))
-  by_significands e false t = t ∙ sym (le-ltb u v (same_bits_not u m a v n b p q e (ltb-false m n t)))
-
-  by_bits : (a ≡ b → ⊥) → (t : Bool) → ltb a b ≡ t → ltb a b ≡ ltb u v
-  by_bits d true t = t ∙ sym (lt-ltb u v (fewer_bits u m a v n b p q (ltb-true a b t)))
-  by_bits d false t =
-      let h : b ≤ a = ltb-false a b t in
-      t ∙ sym (le-ltb u v (omega (arith, fewer_bits v n b u m a q p (omega arith))))
-
-  pub in_order : cond (eqb a b) (ltb m n) (ltb a b) ≡ ltb u v
-  in_order = go (eqb a b) refl
+  same_bits : a ≡ b → (s : Bool) → ltb m n ≡ s → (t : Bool) → is_lt (cond s Less (cond t Equal Greater)) ≡ ltb u v
+  same_bits e true s t = sym (lt-ltb u v (same_bits_less u m a v n b p q e (ltb-true m n s)))
+  same_bits e false s t = not_lower t ∙ sym (le-ltb u v (same_bits_not u m a v n b p q e (ltb-false m n s)))
     where
-      go : (t : Bool) → eqb a b ≡ t → cond t (ltb m n) (ltb a b) ≡ ltb u v
-      go true t = by_significands (eqb-true a b t) (ltb m n) refl
-      go false t = by_bits (eqb-false a b t) (ltb a b) refl
+      not_lower : (t : Bool) → is_lt (cond t Equal Greater) ≡ false
+      not_lower true = refl
+      not_lower false = refl
+
+  pub in_order : pair_lt a m b n ≡ ltb u v
+  in_order = go (ltb a b) refl (eqb a b) refl
+    where
+      go : (s : Bool) → ltb a b ≡ s → (t : Bool) → eqb a b ≡ t → is_some_and is_lt (partial_ordering_then (Some (cond s Less (cond t Equal Greater))) (Some (nat_cmp m n))) ≡ ltb u v
+      go true s t e = sym (lt-ltb u v (fewer_bits u m a v n b p q (ltb-true a b s)))
+      go false s true e = same_bits (eqb-true a b e) (ltb m n) refl (eqb m n)
+      go false s false e =
+          let h : b ≤ a = ltb-false a b s in
+          let d : a ≡ b → ⊥ = eqb-false a b e in
+          sym (le-ltb u v (le_of_lt (fewer_bits v n b u m a q p (lt_unless b a (λ (g : a ≤ b). d (le_antisymm g h))))))
 
 -- a magnitude times 2 ^ 27 has 27 bits more
 pub at_bits_more : (u m b : ℕ) → AtBits u m b → 0 < u → AtBits (u * 2 ^ 27) m (b + 27)

@@ -2,7 +2,7 @@
 //!
 //! With their significands brought to full length, sides are in the order of their bits, and at equal
 //! bits in the order of their significands.
-ghost use Rattle.std.specs.Prelude.{◌≡◌, cond, [], ◌∷◌, ◌⊎◌, ◌≤◌, eqb, ltb};
+ghost use Rattle.std.specs.Prelude.{◌≡◌, [], ◌∷◌, ◌⊎◌, ◌≤◌, nat_lt, ◌==◌};
 ghost use Rattle.sides.specs.Order.{side_units, insert, descending, is_far};
 ghost use Rattle.sides.specs.Listed.{ordered_units};
 
@@ -12,16 +12,16 @@ use crate::side::Side;
 impl Side {
     /// Whether this side has no length.
     pub fn is_zero(self) -> bool
-        ensures { result ≡ eqb (side_units self) 0 }
+        ensures { result ≡ (side_units self == 0) }
     {
         self.significand == 0
     }
 
     /// Whether this side is shorter than another.
     pub fn is_shorter(self, other: Side) -> bool
-        ensures { result ≡ ltb (side_units self) (side_units other) }
+        ensures { result ≡ nat_lt (side_units self) (side_units other) }
     {
-        is_lower(self.bits, self.significand, other.bits, other.significand)
+        (self.bits, self.significand) < (other.bits, other.significand)
     }
 
     /// Whether this side is far beside the largest one: less than 2^-27 of it.
@@ -31,23 +31,7 @@ impl Side {
         if self.is_zero() {
             return !largest.is_zero();
         }
-        is_lower(
-            self.bits + 27,
-            self.significand,
-            largest.bits,
-            largest.significand,
-        )
-    }
-}
-
-// Whether the first of two numbers is the lower, by bits and then by significands.
-fn is_lower(bits: u32, significand: u64, other_bits: u32, other_significand: u64) -> bool
-    ensures { result ≡ cond (eqb bits other_bits) (ltb significand other_significand) (ltb bits other_bits) }
-{
-    if bits == other_bits {
-        significand < other_significand
-    } else {
-        bits < other_bits
+        (self.bits + 27, self.significand) < (largest.bits, largest.significand)
     }
 }
 

@@ -1,10 +1,13 @@
-use Rattle.head.proofs.Lengths.{moved, moved_full}
+use Rattle.std.proofs.Common.{sym, subst, arith}
+use Rattle.head.specs.Side.{Full}
+use Rattle.head.proofs.Lengths.{moved}
 use Rattle.head.proofs.side.full_length.Goals as goal
 
-pub moved_up-requires : goal.moved_up-requires
-moved_up-requires c = (moved c.args.k c.requires.some c.requires.short).room
+pub overflow_sub-moved : goal.overflow_sub-moved
+overflow_sub-moved c = omega (arith, (moved c.args.k c.requires.some c.requires.short).room)
 
-pub returns : goal.returns
-returns c =
-    let z = moved_full c.args.k _ _ c.requires.some c.requires.short c.moved_up.ensures.significand c.moved_up.ensures.moved in
-    record { full = z.0; value = z.1; bound = z.2 }
+pub invariant_of-result : goal.invariant_of-result
+invariant_of-result c = let m = moved c.args.k c.requires.some c.requires.short in record { full = subst Full (sym m.whole) m.full }
+
+pub returns-clause-value : goal.returns-clause-value
+returns-clause-value c = (moved c.args.k c.requires.some c.requires.short).whole

@@ -7,5 +7,5 @@ invariant_of-result c = record { sized = zero_sized c.args.magnitude.significand
 pub invariant_of-result-2 : goal.invariant_of-result-2
 invariant_of-result-2 c = record {
   sized = full_sized c.args.magnitude.significand c.args.magnitude.exponent c.full_length-full.result.significand c.full_length-full.result.moved
-      c.full_length-full.ensures.full c.full_length-full.ensures.value c.full_length-full.ensures.bound c.requires.low;
+      c.full_length-full.result.full c.full_length-full.ensures.value c.full_length-full.ensures.bound c.requires.low;
 }

@@ -2,18 +2,18 @@ use Rattle.std.proofs.Common.{◌∙◌, arith}
 use Rattle.radicand.specs.Limbs.{units, Counts, Held}
 use Rattle.radicand.specs.Sides.{leg_square}
 use Rattle.radicand.proofs.SideSquares.{no_larger, leg_whole, leg_held, whole_units}
-use Rattle.radicand.proofs.sides.leg_square.Goals as goal
+use Rattle.radicand.proofs.sides.NearSides.leg_square.Goals as goal
 
 pub minus-requires : goal.minus-requires
 minus-requires c =
-    let n = c.args.leg in
-    omega (arith, c.squared.ensures, no_larger c.args.hypotenuse n.significand n.below (units c.near_square.result) 0 c.near_square.ensures c.requires.longer)
+    let n = c.args.self.other in
+    omega (arith, c.squared.ensures, no_larger c.args.self.largest n.significand n.below (units c.near_square.result) 0 c.near_square.ensures c.requires)
 
 pub returns : goal.returns
 unfolding Counts Held leg_square
 returns c =
-    let n = c.args.leg in
-    let whole = leg_whole c.args.hypotenuse n.significand n.below (units c.near_square.result) (units c.minus.result) c.near_square.ensures c.requires.longer (c.minus.ensures ∙ c.squared.ensures) in
+    let n = c.args.self.other in
+    let whole = leg_whole c.args.self.largest n.significand n.below (units c.near_square.result) (units c.minus.result) c.near_square.ensures c.requires (c.minus.ensures ∙ c.squared.ensures) in
     record {
       value = whole_units _ _ n.below whole;
       held = λ p h l. leg_held _ _ n.below p h whole l;
