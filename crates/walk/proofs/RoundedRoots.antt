@@ -15,7 +15,6 @@ use Rattle.exact.proofs.Bits.{HasBits, bits_are, bits_most, bits_least, short_of
 use Rattle.radicand.specs.declared.words.Radicand.{Radicand}
 use Rattle.radicand.specs.Stands.{radicand_floor, Stands}
 use Rattle.walk.specs.declared.digit.Rooted.{Rooted}
-use Rattle.walk.specs.declared.floor.Walked.{Walked}
 use Rattle.walk.specs.declared.location.Location.{Location}
 use Rattle.walk.specs.Walk.{distance, walk_limit, Walkable}
 use Rattle.walk.specs.Digit.{with_bits}
@@ -36,13 +35,13 @@ pub record Longer (radicand : Radicand) (t q : ℕ) : Type 0 where
   pub most : t < 2 ^ 56
 
 -- with one digit more the floor root doubles, so it has 54 to 56 bits
-pub longer : (radicand : Radicand) (p : ℕ) (w : Walked) (t : Rooted) → Walkable radicand p → radicand.bits < 4
+pub longer : (radicand : Radicand) (p : ℕ) (w t : Rooted) → Walkable radicand p → radicand.bits < 4
     → w.root ≡ isqrt (radicand_floor radicand) → w.root * w.root + w.residual ≡ radicand_floor radicand
     → t.root * t.root + t.residual ≡ with_bits w.root w.residual radicand.bits → Longer radicand t.root t.residual
 longer radicand p w t start bits root residual next =
     let r = w.root in
     let small : t.residual ≤ 2 * t.root = t.floor in
-    let s = residual_small (radicand_floor radicand) r w.residual root residual in
+    let s : w.residual ≤ 2 * r = w.floor in
     let l : 2 * r < t.root + 1 = lt_of_squares (2 * r) (t.root + 1) (omega arith) in
     let m : t.root < 2 * r + 2 = lt_of_squares t.root (2 * r + 2) (omega arith) in
     let near : distance p r ≤ walk_limit = subst (λ (x : ℕ). distance p x ≤ walk_limit) (sym root) start.near in

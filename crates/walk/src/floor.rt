@@ -7,13 +7,13 @@ ghost use Rattle.exact.specs.Root.{isqrt};
 ghost use Rattle.radicand.specs.Stands.{radicand_floor};
 ghost use Rattle.walk.specs.Walk.{distance, Walkable};
 
+use crate::digit::Rooted;
 use radicand::words::Radicand;
 
-/// A floor root, what its square leaves of the radicand, and the steps that led to it.
+/// A floor root with its residual, and the steps that led to it.
 #[derive(Clone, Copy)]
 pub struct Walked {
-    pub root: u64,
-    pub residual: u64,
+    pub floor: Rooted,
     pub count: u64,
 }
 
@@ -21,9 +21,9 @@ pub struct Walked {
 /// lie near the root.
 pub fn walk(radicand: Radicand, proposal: u64) -> Walked
     requires { Walkable radicand proposal }
-    ensures root { result.root ≡ isqrt (radicand_floor radicand) }
-    ensures residual { result.root * result.root + result.residual ≡ radicand_floor radicand }
-    ensures count { result.count ≡ distance proposal result.root }
+    ensures root { result.floor.root ≡ isqrt (radicand_floor radicand) }
+    ensures residual { result.floor.root * result.floor.root + result.floor.residual ≡ radicand_floor radicand }
+    ensures count { result.count ≡ distance proposal result.floor.root }
 {
     let Radicand { hi, lo, .. } = radicand;
     let mut place = Place {
@@ -31,7 +31,6 @@ pub fn walk(radicand: Radicand, proposal: u64) -> Walked
         residual: lo
             .wrapping_sub(proposal.wrapping_mul(proposal))
             .cast_signed(),
-        count: 0,
     };
     let root = loop {
         if place.is_too_high() {
@@ -42,19 +41,22 @@ pub fn walk(radicand: Radicand, proposal: u64) -> Walked
             break place.guess;
         }
     };
+    // Every step leads one unit nearer, so the steps are the distance.
     Walked {
-        root,
-        residual: place.residual as u64,
-        count: place.count,
+        floor: Rooted {
+            root,
+            residual: place.residual as u64,
+        },
+        count: proposal.abs_diff(root),
     }
 }
 
-// Where a walk stands: its guess, the radicand less the square of that, and the steps so far.
+// Where a walk stands: its guess, and the radicand less the square of that. The bound of the guess is no
+// ghost field, since the loop's invariant would then name the fields of its place by number.
 #[derive(Clone, Copy)]
 struct Place {
     guess: u64,
     residual: i64,
-    count: u64,
 }
 
 impl Place {
@@ -78,37 +80,25 @@ impl Place {
         requires above { self.residual <ℤ pos 0 }
         requires least { 0 < self.guess }
         requires most { self.guess < 2 ^ 55 }
-        requires count { self.count < 2 ^ 55 }
         ensures guess { result.guess ≡ self.guess - 1 }
         ensures residual { result.residual ≡ self.residual +ℤ pos (2 * self.guess - 1) }
-        ensures count { result.count ≡ self.count + 1 }
     {
-        self.step_to(self.guess - 1, self.residual + (2 * self.guess as i64 - 1))
+        Place {
+            guess: self.guess - 1,
+            residual: self.residual + (2 * self.guess as i64 - 1),
+        }
     }
 
     // One step up, from a guess whose next number is not above the root.
     fn up(self) -> Place
         requires below { pos (2 * self.guess) <ℤ self.residual }
         requires most { self.guess < 2 ^ 55 }
-        requires count { self.count < 2 ^ 55 }
         ensures guess { result.guess ≡ self.guess + 1 }
         ensures residual { result.residual +ℤ pos (2 * self.guess + 1) ≡ self.residual }
-        ensures count { result.count ≡ self.count + 1 }
-    {
-        self.step_to(self.guess + 1, self.residual - (2 * self.guess as i64 + 1))
-    }
-
-    // Another guess with its residual, one step on.
-    fn step_to(self, guess: u64, residual: i64) -> Place
-        requires { self.count < 2 ^ 55 }
-        ensures guess { result.guess ≡ guess }
-        ensures residual { result.residual ≡ residual }
-        ensures count { result.count ≡ self.count + 1 }
     {
         Place {
-            guess,
-            residual,
-            count: self.count + 1,
+            guess: self.guess + 1,
+            residual: self.residual - (2 * self.guess as i64 + 1),
         }
     }
 }
@@ -128,8 +118,8 @@ mod tests {
             cut: false,
         };
         let walked = walk(radicand, (1 << 53) + 131);
-        assert_eq!(rt; walked.root, (1 << 53) - 1);
-        assert_eq!(rt; walked.residual, (1 << 54) - 2);
+        assert_eq!(rt; walked.floor.root, (1 << 53) - 1);
+        assert_eq!(rt; walked.floor.residual, (1 << 54) - 2);
         assert_eq!(rt; walked.count, 132);
         Ok(())
     }
@@ -144,8 +134,8 @@ mod tests {
             cut: false,
         };
         let walked = walk(radicand, (1 << 54) - 100);
-        assert_eq!(rt; walked.root, 1 << 54);
-        assert_eq!(rt; walked.residual, 0);
+        assert_eq!(rt; walked.floor.root, 1 << 54);
+        assert_eq!(rt; walked.floor.residual, 0);
         assert_eq!(rt; walked.count, 100);
         Ok(())
     }

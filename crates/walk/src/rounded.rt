@@ -10,7 +10,6 @@ ghost use Rattle.radicand.specs.Stands.{radicand_floor};
 ghost use Rattle.walk.specs.Walk.{distance, Walkable};
 ghost use Rattle.walk.specs.Rounded.{longer_root, dropped_bits, RoundsTo};
 
-use crate::digit::Rooted;
 use crate::floor::walk;
 use crate::location::{located, nearest};
 use radicand::words::Radicand;
@@ -37,11 +36,7 @@ pub fn rounded_root(radicand: Radicand, proposal: u64, precision: u32, least: u3
     ensures length { RoundsTo precision least radicand result }
 {
     let walked = walk(radicand, proposal);
-    let floor = Rooted {
-        root: walked.root,
-        residual: walked.residual,
-    };
-    let longer = floor.next(radicand.bits);
+    let longer = walked.floor.next(radicand.bits);
     let dropped = bits_to_drop(longer.root, precision, least);
     let exact = is_exact(longer.residual, radicand.cut);
     let significand = nearest(located(longer.root, exact, dropped));

@@ -58,4 +58,4 @@ returns c =
     let low = not_high n g r c.loop-place.invariant.0 (λ h. true≢false (sym (c.is_too_high.ensures.1 h) ∙ c.if-is_too_high.false)) in
     let high = not_low n g r c.loop-place.invariant.0 (λ h. true≢false (sym (c.is_too_low.ensures.1 h) ∙ c.if-is_too_low.false)) in
     let e = arrived n g low high in
-    record { root = e; residual = omega (arith, ints); count = omega (arith, e) }
+    record { root = e; residual = omega (arith, ints); count = omega (arith, c.abs_diff.ensures) }

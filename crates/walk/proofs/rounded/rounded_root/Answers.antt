@@ -1,18 +1,12 @@
 use Rattle.std.proofs.Common.{◌^◌, div-le_self, arith}
-use Rattle.radicand.specs.Stands.{radicand_floor}
-use Rattle.walk.proofs.RoundedRoots.{residual_small, longer, drops_one, drops_are, rounds_to}
+use Rattle.walk.proofs.RoundedRoots.{longer, drops_one, drops_are, rounds_to}
 use Rattle.walk.proofs.rounded.rounded_root.Goals as goal
-
-pub invariant_of-floor : goal.invariant_of-floor
-invariant_of-floor c =
-    let w = c.walk-walked in
-    record { floor = residual_small (radicand_floor c.args.radicand) w.result.root w.result.residual w.ensures.root w.ensures.residual }
 
 pub located-requires : goal.located-requires
 located-requires c =
     let w = c.walk-walked in
     let t = c.next-longer.result in
-    let l = longer c.args.radicand c.args.proposal w.result t c.requires.proposal c.requires.bits w.ensures.root w.ensures.residual c.next-longer.ensures.residual in
+    let l = longer c.args.radicand c.args.proposal w.result.floor t c.requires.proposal c.requires.bits w.ensures.root w.ensures.residual c.next-longer.ensures.residual in
     record {
       root = omega (arith, l.most);
       dropped = drops_one c.args.radicand t.root t.residual l c.args.precision c.args.least c.bits_to_drop-dropped.result c.requires.precision.1 c.bits_to_drop-dropped.ensures;
@@ -22,14 +16,14 @@ pub nearest-significand-requires : goal.nearest-significand-requires
 nearest-significand-requires c =
     let w = c.walk-walked in
     let t = c.next-longer.result in
-    let l = longer c.args.radicand c.args.proposal w.result t c.requires.proposal c.requires.bits w.ensures.root w.ensures.residual c.next-longer.ensures.residual in
+    let l = longer c.args.radicand c.args.proposal w.result.floor t c.requires.proposal c.requires.bits w.ensures.root w.ensures.residual c.next-longer.ensures.residual in
     omega (arith, l.most, c.located.ensures.floor, div-le_self t.root (2 ^ c.bits_to_drop-dropped.result))
 
 pub returns : goal.returns
 returns c =
     let w = c.walk-walked in
     let t = c.next-longer.result in
-    let l = longer c.args.radicand c.args.proposal w.result t c.requires.proposal c.requires.bits w.ensures.root w.ensures.residual c.next-longer.ensures.residual in
+    let l = longer c.args.radicand c.args.proposal w.result.floor t c.requires.proposal c.requires.bits w.ensures.root w.ensures.residual c.next-longer.ensures.residual in
     record {
       count = omega (arith, w.ensures);
       dropped = drops_are c.args.radicand t.root t.residual l c.args.precision c.args.least c.bits_to_drop-dropped.result c.requires.precision.1 c.bits_to_drop-dropped.ensures;
