@@ -55,17 +55,8 @@ fn proposal(word: u64) -> u64
     requires { 2 ^ 62 ≤ word }
     ensures { result ≡ float_proposal word }
 {
-    let DoubleDouble { hi, lo } = held(word);
-    proposal_by(word, hi, lo)
-}
-
-// The proposal for a word that is the sum of `hi` and `lo`.
-fn proposal_by(word: u64, hi: f64, lo: f64) -> u64
-    requires word { 2 ^ 62 ≤ word }
-    requires parts { Held word hi lo }
-    ensures { result ≡ float_proposal word }
-{
-    let root = improve(guess(word), hi, lo);
+    let parts = held(word);
+    let root = improve(guess(word), parts);
     cut_root(root)
 }
 
@@ -99,13 +90,13 @@ fn guess(word: u64) -> f64
 }
 
 // Four steps, the last with both parts of the word.
-fn improve(guess: f64, hi: f64, lo: f64) -> f64
-    ensures { result ≡ improved guess hi lo }
+fn improve(guess: f64, word: DoubleDouble) -> f64
+    ensures { result ≡ improved guess word.hi word.lo }
 {
-    let first = step(guess, hi);
-    let second = step(first, hi);
-    let third = step(second, hi);
-    step_by_both(third, hi, lo)
+    let first = step(guess, word.hi);
+    let second = step(first, word.hi);
+    let third = step(second, word.hi);
+    step_by_both(third, word)
 }
 
 // A Newton step for the root of `t`.
@@ -115,11 +106,11 @@ fn step(x: f64, t: f64) -> f64
     half_sum(x, t / x)
 }
 
-// A Newton step for the root of `hi + lo`.
-fn step_by_both(x: f64, hi: f64, lo: f64) -> f64
-    ensures { result ≡ last_step x hi lo }
+// A Newton step for the root of a word in two parts.
+fn step_by_both(x: f64, word: DoubleDouble) -> f64
+    ensures { result ≡ last_step x word.hi word.lo }
 {
-    half_sum(x, hi / x + lo / x)
+    half_sum(x, word.hi / x + word.lo / x)
 }
 
 // The mean of a guess and a quotient.
