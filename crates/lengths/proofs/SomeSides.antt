@@ -1,5 +1,5 @@
 -- What `any` over sides answers, for any test, is the word `some` of outcomes.
-use Rattle.std.proofs.Common.{◌≡◌, Bool, true, false, ◌||◌, List, None, Option, sym, refl, ◌∙◌}
+use Rattle.std.proofs.Common.{◌≡◌, Bool, true, false, ◌||◌, List, Option, sym, refl, ◌∙◌}
 use Rattle.std.specs.Fn.{Called}
 use Rattle.std.specs.Iterator.{YieldsThen}
 use Rattle.std.specs.List.{FoldsTo, list_any}

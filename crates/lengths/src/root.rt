@@ -2,7 +2,6 @@
 //! and the pattern of that.
 ghost use Rattle.std.specs.Prelude.{◌≡◌, ℕ, ◌^◌, ◌≤◌, Float};
 ghost use Rattle.sides.specs.Poses.{Poses};
-ghost use Rattle.walk.specs.Rounded.{after_carry};
 ghost use Rattle.lengths.specs.LengthOf.{root_length};
 ghost use Rattle.lengths.specs.Posed.{PosedRoot};
 
@@ -24,7 +23,7 @@ pub fn root_length<F: NumberForm, R: RootSource>(source: &R, posed: Posed) -> Me
     let unit = 24 + posed.places;
     let least = unit.saturating_sub(posed.bits);
     let rounded = rounded_root(posed.radicand, proposal, F::form().precision, least);
-    let exponent = carry(posed.bits + rounded.dropped - unit, rounded.carried);
+    let exponent = posed.bits + rounded.dropped - unit + u32::from(rounded.carried);
     Measured {
         pattern: written_or_infinity::<F>(rounded.significand, exponent),
         count: rounded.count,
@@ -40,12 +39,4 @@ fn proposal_for<R: RootSource>(source: &R, word: u64) -> u64
         unreachable()
     };
     proposal
-}
-
-// The exponent, one more after a carry.
-fn carry(exponent: u32, carried: bool) -> u32
-    requires { exponent ≤ 5000 }
-    ensures { result ≡ after_carry carried exponent }
-{
-    if carried { exponent + 1 } else { exponent }
 }
