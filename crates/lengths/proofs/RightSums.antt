@@ -1,5 +1,5 @@
 -- The root of a sum of squares: where it is plain, the longest side is its length, and else it has a near head.
-use Rattle.std.proofs.Common.{◌≡◌, ℕ, ◌+◌, ◌*◌, ◌^◌, ◌<◌, ◌≤◌, Bool, true, false, cond, ◌&&◌, eqb, List, [], ◌∷◌, Some, None, Option, unwrap_or, sym, refl, ap, ◌∙◌, subst, true≢false, arith, ltb-true, lt-ltb, eqb-true}
+use Rattle.std.proofs.Common.{◌≡◌, ℕ, ◌+◌, ◌*◌, ◌^◌, ◌<◌, ◌≤◌, Bool, true, false, cond, ◌&&◌, eqb, List, [], ◌∷◌, Some, None, sym, refl, ap, ◌∙◌, subst, true≢false, arith, ltb-true, lt-ltb, eqb-true}
 use Rattle.std.proofs.lemmas.Nat.{mul-lt}
 use lib.Ieee.{Float}
 use borrow.Author.Tests.{eqb-false}
@@ -14,61 +14,36 @@ use Rattle.sides.specs.HeadSum.{sum_in_order, scaled_square, add_squares}
 use Rattle.sides.specs.Poses.{squares}
 use Rattle.sides.proofs.Descending.{first_insert, squares_descending}
 use Rattle.sides.proofs.NearHeads.{NearHead, sum_near_head}
-use Rattle.triangle.specs.Outcome.{Outcome, not_a_number, infinite, root_of, is_signalling, is_infinite, is_quiet, some, magnitude, sum_of_squares, hypot_outcome}
+use Rattle.triangle.specs.Outcome.{not_a_number, infinite, root_of, is_signalling, is_infinite, is_quiet, some, magnitude, sum_of_squares, hypot_outcome}
 use Rattle.triangle.specs.Answer.{root_pattern, special_pattern}
 use Rattle.lengths.specs.Asked.{sum_of, magnitudes, radicand, largest, head_of}
 use Rattle.lengths.specs.Plain.{all_zero, is_empty, others_far, longest, longest_pattern, zero_pattern, plain_root}
 use Rattle.lengths.specs.Finite.{OfForm, side_pattern}
 use Rattle.triangle.proofs.Answering.{writes}
 use Rattle.lengths.proofs.Finites.{zero_value}
-use Rattle.lengths.proofs.PlainCases.{Values, none, more, no_more, one_more, no_some, sum_values, all_zero_is, longest_value, longest_is, reading_pattern, far_others}
+use Rattle.lengths.proofs.PlainCases.{Values, none, more, no_more, one_more, sum_values, all_zero_is, longest_value, longest_is, reading_pattern, far_others}
 use Rattle.lengths.proofs.AskedLengths.{squares_of}
 use Rattle.lengths.proofs.FarLengths.{length_above}
 use Rattle.lengths.proofs.Sorted.{Sided, reading_sided, zero_sided_of, Two, Three, two_sorted, three_sorted}
 use Rattle.lengths.proofs.RightAsked.{RightAsked}
 
-pub same_some : {P : Type 0} (a b : P) → ◌≡◌ {A = Option P} (Some a) (Some b) → a ≡ b
-same_some a b e = ap (λ o. unwrap_or o a) e
-
 pub none_of_two : {P : Type 0} (x y : P) (a b : Bool) → cond a (Some x) (cond b (Some y) None) ≡ None → (a ≡ false) × (b ≡ false)
-none_of_two x y true b e = absurd (no_some x e)
-none_of_two x y false true e = absurd (no_some y e)
+none_of_two x y true b e = cc
+none_of_two x y false true e = cc
 none_of_two x y false false e = (refl, refl)
 
-root_value : Outcome → ℕ
-root_value not_a_number = 0
-root_value infinite = 0
-root_value (root_of n) = n
-
-is_root : Outcome → Bool
-is_root not_a_number = false
-is_root infinite = false
-is_root (root_of n) = true
-
-no_root : (m : ℕ) → not_a_number ≡ root_of m → ⊥
-unfolding is_root
-no_root m e = true≢false (sym (ap is_root e))
-
-not_infinite : (m : ℕ) → infinite ≡ root_of m → ⊥
-unfolding is_root
-not_infinite m e = true≢false (sym (ap is_root e))
-
-pub same_root : (n m : ℕ) → root_of n ≡ root_of m → m ≡ n
-unfolding root_value
-same_root n m e = sym (ap root_value e)
-
 root_chosen : (a b c : Bool) (n m : ℕ) → cond a not_a_number (cond b infinite (cond c not_a_number (root_of n))) ≡ root_of m → m ≡ n
-root_chosen true b c n m e = absurd (no_root m e)
-root_chosen false true c n m e = absurd (not_infinite m e)
-root_chosen false false true n m e = absurd (no_root m e)
-root_chosen false false false n m e = same_root n m e
+root_chosen true b c n m e = cc
+root_chosen false true c n m e = cc
+root_chosen false false true n m e = cc
+root_chosen false false false n m e = cc
 
 pub leg_chosen_root : (a b c d : Bool) (n m : ℕ) → cond a not_a_number (cond b not_a_number (cond c infinite (cond d not_a_number (root_of n)))) ≡ root_of m → m ≡ n
-leg_chosen_root true b c d n m e = absurd (no_root m e)
-leg_chosen_root false true c d n m e = absurd (no_root m e)
-leg_chosen_root false false true d n m e = absurd (not_infinite m e)
-leg_chosen_root false false false true n m e = absurd (no_root m e)
-leg_chosen_root false false false false n m e = same_root n m e
+leg_chosen_root true b c d n m e = cc
+leg_chosen_root false true c d n m e = cc
+leg_chosen_root false false true d n m e = cc
+leg_chosen_root false false false true n m e = cc
+leg_chosen_root false false false false n m e = cc
 
 all_zero_sum : (sides : List Reading) → all_zero sides ≡ true → sum_of_squares sides ≡ 0
 all_zero_sum [] e = refl
@@ -124,9 +99,9 @@ module _ {P : Type 0} (encoding : Encoding P) (law : Lawful encoding) where
       where
         go : (a b : Bool) → all_zero (x ∷ xs) ≡ a → others_far (descending (magnitudes (x ∷ xs))) ≡ b
             → cond a (Some (zero_pattern encoding)) (cond b (Some (longest_pattern encoding (x ∷ xs))) None) ≡ Some p → p ≡ root_pattern encoding (sum_of_squares (x ∷ xs))
-        go true b z f e = sym (same_some (zero_pattern encoding) p e) ∙ zero_root ∙ ap (root_pattern encoding) (sym (all_zero_sum (x ∷ xs) z))
-        go false true z f e = sym (same_some (longest_pattern encoding (x ∷ xs)) p e) ∙ longest_is_first ∙ far_root (far (ap others_far (sym sorted) ∙ f) (some_length z))
-        go false false z f e = absurd (no_some p (sym e))
+        go true b z f e = let q : p ≡ zero_pattern encoding = cc in q ∙ zero_root ∙ ap (root_pattern encoding) (sym (all_zero_sum (x ∷ xs) z))
+        go false true z f e = let q : p ≡ longest_pattern encoding (x ∷ xs) = cc in q ∙ longest_is_first ∙ far_root (far (ap others_far (sym sorted) ∙ f) (some_length z))
+        go false false z f e = cc
 
 -- Far sides are small together.
 
