@@ -1,6 +1,7 @@
 pub mod Computed
 pub mod Finites
 pub mod SomeSides
+pub mod TwoSides
 pub mod PlainCases
 pub mod FarLengths
 pub mod AskedLengths
