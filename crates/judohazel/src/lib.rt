@@ -18,6 +18,8 @@ use forms::number_form::NumberForm;
 use lengths::call::Call;
 use lengths::length::length_of;
 
+// These stay five functions of one shape: C calls each by its name, with patterns of its width.
+
 /// The hypotenuse over two legs, in binary64.
 #[unsafe(no_mangle)]
 pub extern "C" fn f_hypot(x: u64, y: u64) -> u64

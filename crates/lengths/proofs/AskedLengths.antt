@@ -9,9 +9,9 @@ use Rattle.sides.specs.declared.side.Side.{Side}
 use Rattle.sides.specs.declared.ordered.Ordered.{Ordered}
 use Rattle.sides.specs.Order.{side_units, descending, first, is_far}
 use Rattle.sides.specs.Listed.{ordered_units}
-use Rattle.sides.specs.HeadSum.{sum_in_order, head_difference}
+use Rattle.sides.specs.HeadSum.{sum_in_order}
 use Rattle.sides.specs.declared.posed.Posed.{Posed}
-use Rattle.sides.specs.Poses.{squares, squares_apart, Poses}
+use Rattle.sides.specs.Poses.{squares, Poses}
 use Rattle.sides.proofs.Descending.{squares_descending}
 use Rattle.sources.specs.Source.{Source}
 use Rattle.triangle.specs.Outcome.{magnitude, sum_of_squares, hypot_outcome, leg_outcome}
@@ -39,7 +39,7 @@ squares_of [] = refl
 squares_of (r ∷ sides) = ap (λ (x : ℕ). magnitude r * magnitude r + x) (squares_of sides)
 
 -- a root posed by the sides in order
-in_order : (sides : List Reading) (units : List ℕ) (p : Posed) → units ≡ descending (magnitudes sides)
+pub in_order : (sides : List Reading) (units : List ℕ) (p : Posed) → units ≡ descending (magnitudes sides)
     → Poses (sum_in_order units) (squares units) (first units) p → Poses (head_of (sum_of sides)) (radicand (sum_of sides)) (largest (sum_of sides)) p
 in_order sides units p e q =
     subst (λ (n : ℕ). Poses (head_of (sum_of sides)) n (largest (sum_of sides)) p) (squares_descending (magnitudes sides) ∙ squares_of sides)
@@ -63,32 +63,17 @@ module _ {P : Type 0} (encoding : Encoding P) (law : Lawful encoding) (x y z : R
   abbrev tested : Option P
   tested = cond (eqb (side_units o.first) 0 || is_far (side_units o.first) (side_units o.second)) (Some (side_pattern encoding o.first)) None
 
-  pub three_plain : (r : Option P) → r ≡ tested → plain encoding asked_sum ≡ r
-  three_plain r e =
-      plain_by_root encoding asked_sum r special
-      (plain_sum_is encoding law x y z o (sum_values encoding (x ∷ y ∷ z ∷ []) (one_more a (one_more b (one_more c no_more))) special) side sorted ∙ sym e)
-
-  pub three_posed : (p : Posed) → None ≡ tested → Poses (sum_in_order (ordered_units o)) (squares (ordered_units o)) (side_units o.first) p
-      → (plain encoding asked_sum ≡ None) × Poses (head_of asked_sum) (radicand asked_sum) (largest asked_sum) p
-  three_posed p e q = (three_plain None e, in_order (x ∷ y ∷ z ∷ []) (ordered_units o) p sorted q)
+  pub three_plain : plain encoding asked_sum ≡ tested
+  three_plain =
+      plain_by_root encoding asked_sum tested special
+      (plain_sum_is encoding law x y z o (sum_values encoding (x ∷ y ∷ z ∷ []) (one_more a (one_more b (one_more c no_more))) special) side sorted)
 
 -- a leg, its sides not special
 module _ {P : Type 0} (encoding : Encoding P) (law : Lawful encoding) (x y : Reading) (s t : Side)
     (a : OfForm encoding.form x) (b : OfForm encoding.form y) (side : SideValue encoding.form s) (p : side_units s ≡ magnitude x) (q : side_units t ≡ magnitude y)
     (special : special_pattern encoding (leg_outcome x y) ≡ None) where
-  abbrev asked_leg : Asked
-  asked_leg = difference_of x y
-
   abbrev tested_leg : Option P
   tested_leg = cond (leb (side_units s) (side_units t)) (Some (zero_pattern encoding)) (cond (is_far (side_units s) (side_units t)) (Some (side_pattern encoding s)) None)
 
-  pub leg_plain : (r : Option P) → r ≡ tested_leg → plain encoding asked_leg ≡ r
-  leg_plain r e = plain_by_root encoding asked_leg r special (plain_leg_is encoding law x y s t (leg_values encoding x y a b special) side p q ∙ sym e)
-
-  pub leg_posed : (r : Posed) → None ≡ tested_leg → Poses (head_difference (side_units s) (side_units t)) (squares_apart (side_units s) (side_units t)) (side_units s) r
-      → (plain encoding asked_leg ≡ None) × Poses (head_of asked_leg) (radicand asked_leg) (largest asked_leg) r
-  leg_posed r e h = (
-    leg_plain None e,
-    subst (λ (n : ℕ). Poses (head_difference n (magnitude y)) (squares_apart n (magnitude y)) n r) p
-        (subst (λ (m : ℕ). Poses (head_difference (side_units s) m) (squares_apart (side_units s) m) (side_units s) r) q h),
-  )
+  pub leg_plain : plain encoding (difference_of x y) ≡ tested_leg
+  leg_plain = plain_by_root encoding (difference_of x y) tested_leg special (plain_leg_is encoding law x y s t (leg_values encoding x y a b special) side p q)

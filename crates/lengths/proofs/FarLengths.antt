@@ -1,9 +1,9 @@
 -- A side far below another moves the root by less than half a unit of the last place: the length is the longer side.
-use Rattle.std.proofs.Common.{◌≡◌, ℕ, zero, suc, ◌+◌, ◌-◌, ◌*◌, ◌^◌, ◌<◌, ◌≤◌, ◌⊎◌, sym, refl, ap, ◌∙◌, subst, inl, inr, le_trans, lt_of_le_of_lt, mul-le-mul_right, eq-zero-or-pos, mul-le-mul, lt_of_mul-lt-mul_right, eq-or-lt_of_le, mul-le-mul_left, mul-lt-mul_of_pos_right, arith, pow_pos, pow-add}
+use Rattle.std.proofs.Common.{◌≡◌, ℕ, ◌+◌, ◌-◌, ◌*◌, ◌^◌, ◌<◌, ◌≤◌, ◌⊎◌, sym, ap, ◌∙◌, subst, inl, inr, le_trans, lt_of_le_of_lt, mul-le-mul_right, eq-zero-or-pos, mul-le-mul, lt_of_mul-lt-mul_right, eq-or-lt_of_le, mul-le-mul_left, mul-lt-mul_of_pos_right, arith, pow_pos, pow-add}
 use Rattle.exact.specs.declared.form.Form.{Form}
 use Rattle.exact.specs.Value.{Value, InRange, units}
 use Rattle.exact.specs.Length.{NearestWhole, Length, kept, carried}
-use Rattle.exact.proofs.Squares.{four_two, four_pos, two_le, two_half, square_at, le_unless}
+use Rattle.exact.proofs.Squares.{four_two, four_pos, two_le, two_half, square_at, lt_unless, le_unless}
 use Rattle.exact.proofs.Values.{value_is_length}
 use Rattle.head.proofs.Powers.{four_more}
 
@@ -61,17 +61,19 @@ module _ (form : Form) (ok : InRange form) (k e : ℕ) (v : Value form k e) wher
       (λ i. pow-add 2 (p - 1) e i * pow-add 2 (p - 1) e i) ∙ omega (arith, ap (λ (x : ℕ). 2 ^ (p - 1) * 2 ^ (p - 1) * x) (four_two e)) in
       omega (arith, four_two (p + f), b, c)
 
+  positive : (x : ℕ) → x < u * u → 0 < k
+  positive x h =
+      lt_unless 0 k (λ (o : k ≤ 0).
+      let z : k ≡ 0 = omega arith in
+      omega (arith, h, square k e, ap (λ (j : ℕ). j * j * 4 ^ e) z))
+
   -- a little more than the square
   module _ (r : ℕ) (h : r * 2 ^ 53 < u * u) where
     small : 0 < k → r < k * 4 ^ e
     small g = below_units k e r short (omega (arith, h, square k e))
 
     nonzero : 0 < k
-    nonzero = go k refl
-      where
-        go : (j : ℕ) → k ≡ j → 0 < k
-        go zero z = absurd (omega (arith, h, square k e, ap (λ (x : ℕ). x * x * 4 ^ e) z))
-        go (suc j) z = omega arith
+    nonzero = positive (r * 2 ^ 53) h
 
     above_fits : u * u + r < 4 ^ (p + e)
     above_fits =
@@ -99,11 +101,7 @@ module _ (form : Form) (ok : InRange form) (k e : ℕ) (v : Value form k e) wher
     half_small = below_units k e (r * 2) short (omega (arith, h, square k e))
 
     some : 0 < k
-    some = go k refl
-      where
-        go : (j : ℕ) → k ≡ j → 0 < k
-        go zero z = absurd (omega (arith, h, square k e, ap (λ (x : ℕ). x * x * 4 ^ e) z))
-        go (suc j) z = omega arith
+    some = positive (r * 2 ^ 54) h
 
     below_fits : n < 4 ^ (p + e)
     below_fits =

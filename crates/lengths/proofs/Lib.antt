@@ -1,5 +1,6 @@
 pub mod Computed
 pub mod Finites
+pub mod TwoSides
 pub mod PlainCases
 pub mod FarLengths
 pub mod AskedLengths

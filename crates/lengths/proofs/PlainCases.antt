@@ -1,6 +1,7 @@
 -- Where nothing about the sides is special they are finite, and the plain cases of finite sides are told by the largest side and
 -- the next: the largest is zero, or the next is far. The pattern is then that of the largest side.
-use Rattle.std.proofs.Common.{◌≡◌, ℕ, ◌≤◌, max, Bool, true, false, cond, ◌&&◌, ◌||◌, eqb, ltb, leb, List, [], ◌∷◌, Some, None, Option, sym, refl, ap, ◌∙◌, true≢false, arith, ltb-false, ltb-true, eq-eqb, ne_eqb, eqb-true, le-leb}
+use Rattle.std.proofs.Common.{◌≡◌, ℕ, ◌≤◌, max, Bool, true, false, cond, ◌&&◌, ◌||◌, eqb, ltb, leb, List, [], ◌∷◌, Some, None, sym, refl, ap, ◌∙◌, arith, ltb-false, ltb-true, eq-eqb, ne_eqb, eqb-true, le-leb}
+use Rattle.std.proofs.lemmas.Bool.{or_parts}
 use borrow.Author.Tests.{eqb-false, lt-leb}
 use Rattle.exact.proofs.Squares.{lt_unless}
 use Rattle.exact.specs.declared.form.Form.{Form}
@@ -22,9 +23,6 @@ use Rattle.lengths.specs.Plain.{all_zero, is_empty, others_far, longest, magnitu
 use Rattle.lengths.specs.Finite.{OfForm, SideValue, side_pattern}
 use Rattle.lengths.proofs.Finites.{zero_value}
 
-pub no_some : {P : Type 0} (p : P) → ◌≡◌ {A = Option P} (Some p) None → ⊥
-no_some p e = let z : ◌≡◌ {A = ℕ} 0 1 = cc in omega arith
-
 -- Finite readings.
 
 -- a reading that is a value of the form
@@ -37,17 +35,9 @@ pub record IsValue (form : Form) (r : Reading) : Type 0 where
 
 finite_value : (form : Form) (r : Reading) → OfForm form r → is_signalling r ≡ false → is_infinite r ≡ false → is_quiet r ≡ false → IsValue form r
 finite_value form (Finite n k e) o a b c = record { negative = n; k = k; e = e; is = refl; value = o n k e refl }
-finite_value form (Infinite n) o a b c = absurd (true≢false b)
-finite_value form QuietNan o a b c = absurd (true≢false c)
-finite_value form SignallingNan o a b c = absurd (true≢false a)
-
-or_left : (a b : Bool) → (a || b) ≡ false → a ≡ false
-or_left true b e = absurd (true≢false e)
-or_left false b e = refl
-
-or_right : (a b : Bool) → (a || b) ≡ false → b ≡ false
-or_right true b e = absurd (true≢false e)
-or_right false b e = e
+finite_value form (Infinite n) o a b c = cc
+finite_value form QuietNan o a b c = cc
+finite_value form SignallingNan o a b c = cc
 
 pub data Values (form : Form) : List Reading → Type 0 where
   none : Values form []
@@ -60,8 +50,10 @@ pub data OfForms (form : Form) : List Reading → Type 0 where
 all_values : (form : Form) (sides : List Reading) → OfForms form sides → some is_signalling sides ≡ false → some is_infinite sides ≡ false → some is_quiet sides ≡ false → Values form sides
 all_values form [] no_more a b c = none
 all_values form (r ∷ sides) (one_more o os) a b c =
-    more (finite_value form r o (or_left (is_signalling r) (some is_signalling sides) a) (or_left (is_infinite r) (some is_infinite sides) b) (or_left (is_quiet r) (some is_quiet sides) c))
-    (all_values form sides os (or_right (is_signalling r) (some is_signalling sides) a) (or_right (is_infinite r) (some is_infinite sides) b) (or_right (is_quiet r) (some is_quiet sides) c))
+    let p = or_parts (is_signalling r) (some is_signalling sides) a in
+    let q = or_parts (is_infinite r) (some is_infinite sides) b in
+    let s = or_parts (is_quiet r) (some is_quiet sides) c in
+    more (finite_value form r o p.0 q.0 s.0) (all_values form sides os p.1 q.1 s.1)
 
 module _ {P : Type 0} (encoding : Encoding P) where
   -- the three tests in their order
@@ -70,9 +62,9 @@ module _ {P : Type 0} (encoding : Encoding P) where
 
   none_chosen : (a b c : Bool) (n : ℕ) → special_pattern encoding (chosen a b c n) ≡ None → (a ≡ false) × (b ≡ false) × (c ≡ false)
   unfolding chosen
-  none_chosen true b c n q = absurd (no_some _ q)
-  none_chosen false true c n q = absurd (no_some _ q)
-  none_chosen false false true n q = absurd (no_some _ q)
+  none_chosen true b c n q = cc
+  none_chosen false true c n q = cc
+  none_chosen false false true n q = cc
   none_chosen false false false n q = (refl, refl, refl)
 
   pub sum_values : (sides : List Reading) → OfForms encoding.form sides → special_pattern encoding (hypot_outcome sides) ≡ None → Values encoding.form sides
@@ -191,10 +183,10 @@ module _ {P : Type 0} (encoding : Encoding P) where
 
   none_left : (a b c d : Bool) (n : ℕ) → special_pattern encoding (leg_chosen a b c d n) ≡ None → (a ≡ false) × (b ≡ false) × (c ≡ false) × (d ≡ false)
   unfolding leg_chosen
-  none_left true b c d n q = absurd (no_some _ q)
-  none_left false true c d n q = absurd (no_some _ q)
-  none_left false false true d n q = absurd (no_some _ q)
-  none_left false false false true n q = absurd (no_some _ q)
+  none_left true b c d n q = cc
+  none_left false true c d n q = cc
+  none_left false false true d n q = cc
+  none_left false false false true n q = cc
   none_left false false false false n q = (refl, refl, refl, refl)
 
   pub record Leg (x y : Reading) : Type 0 where
@@ -206,11 +198,12 @@ module _ {P : Type 0} (encoding : Encoding P) where
   unfolding leg_chosen
   leg_values x y o w q =
       let t = none_left (is_nan x || is_nan y) (is_infinite y) (is_infinite x) (ltb (magnitude x) (magnitude y)) (difference_of_squares x y) q in
-      let n = or_left (is_nan x) (is_nan y) t.0 in
-      let m = or_right (is_nan x) (is_nan y) t.0 in
+      let nans = or_parts (is_nan x) (is_nan y) t.0 in
+      let n = or_parts (is_signalling x) (is_quiet x) nans.0 in
+      let m = or_parts (is_signalling y) (is_quiet y) nans.1 in
       record {
-        hypotenuse = finite_value encoding.form x o (or_left (is_signalling x) (is_quiet x) n) t.2 (or_right (is_signalling x) (is_quiet x) n);
-        other = finite_value encoding.form y w (or_left (is_signalling y) (is_quiet y) m) t.1 (or_right (is_signalling y) (is_quiet y) m);
+        hypotenuse = finite_value encoding.form x o n.0 t.2 n.1;
+        other = finite_value encoding.form y w m.0 t.1 m.1;
         not_shorter = ltb-false (magnitude x) (magnitude y) t.3;
       }
 

@@ -21,11 +21,11 @@ use Rattle.lengths.specs.Plain.{magnitude_pattern, zero_pattern, plain_root}
 use Rattle.lengths.specs.Finite.{OfForm}
 use Rattle.lengths.specs.LengthOf.{length_of}
 use Rattle.lengths.specs.Right.{AnswersCall, RightLengths}
-use Rattle.lengths.proofs.PlainCases.{IsValue, no_some, Leg, leg_values, reads_of_form}
+use Rattle.lengths.proofs.PlainCases.{IsValue, Leg, leg_values, reads_of_form}
 use Rattle.lengths.proofs.FarLengths.{length_below}
 use Rattle.lengths.proofs.Sorted.{Sided, reading_sided}
 use Rattle.lengths.proofs.RightAsked.{RightAsked, asked_answers, asked_counts, same_pattern}
-use Rattle.lengths.proofs.RightSums.{same_some, none_of_two, leg_chosen_root, written_root, zero_root, right_two, right_three}
+use Rattle.lengths.proofs.RightSums.{none_of_two, leg_chosen_root, written_root, zero_root, right_two, right_three}
 
 module _ {P : Type 0} (encoding : Encoding P) (law : Lawful encoding) (x y : Reading) (X : OfForm encoding.form x) (Y : OfForm encoding.form y) where
   abbrev u : ℕ
@@ -53,9 +53,9 @@ module _ {P : Type 0} (encoding : Encoding P) (law : Lawful encoding) (x y : Rea
       go true b z f e =
           let q : u ≡ v = eqb-true u v z in
           let n : u * u - v * v ≡ 0 = omega (arith, ap (λ (z : ℕ). z * z) q) in
-          sym (same_some (zero_pattern encoding) p e) ∙ zero_root encoding law ∙ ap (root_pattern encoding) (sym n)
-      go false true z f e = sym (same_some (magnitude_pattern encoding x) p e) ∙ far_leg l.hypotenuse f l.not_shorter
-      go false false z f e = absurd (no_some p (sym e))
+          let r : p ≡ zero_pattern encoding = cc in r ∙ zero_root encoding law ∙ ap (root_pattern encoding) (sym n)
+      go false true z f e = let q : p ≡ magnitude_pattern encoding x = cc in q ∙ far_leg l.hypotenuse f l.not_shorter
+      go false false z f e = cc
 
   headed_leg : (a : Sided encoding.form u) (b : Sided encoding.form v) → v < u → is_far u v ≡ false → NearHead (head_difference u v) (squares_apart u v) u
   headed_leg a b o f =

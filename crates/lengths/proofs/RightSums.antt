@@ -1,5 +1,5 @@
 -- The root of a sum of squares: where it is plain, the longest side is its length, and else it has a near head.
-use Rattle.std.proofs.Common.{◌≡◌, ℕ, ◌+◌, ◌*◌, ◌^◌, ◌<◌, ◌≤◌, Bool, true, false, cond, ◌&&◌, eqb, List, [], ◌∷◌, Some, None, Option, unwrap_or, sym, refl, ap, ◌∙◌, subst, true≢false, arith, ltb-true, lt-ltb, eqb-true}
+use Rattle.std.proofs.Common.{◌≡◌, ℕ, ◌+◌, ◌*◌, ◌^◌, ◌<◌, ◌≤◌, Bool, true, false, cond, ◌&&◌, eqb, List, [], ◌∷◌, Some, None, sym, refl, ap, ◌∙◌, subst, true≢false, arith, ltb-true, eqb-true}
 use Rattle.std.proofs.lemmas.Nat.{mul-lt}
 use lib.Ieee.{Float}
 use borrow.Author.Tests.{eqb-false}
@@ -10,66 +10,42 @@ use Rattle.exact.proofs.Values.{value_is_length}
 use Rattle.forms.specs.declared.reading.Reading.{Reading}
 use Rattle.forms.specs.Encoding.{Encoding, Lawful}
 use Rattle.sides.specs.Order.{side_units, descending, first, is_far}
-use Rattle.sides.specs.HeadSum.{sum_in_order, scaled_square, add_squares}
+use Rattle.sides.specs.HeadSum.{sum_in_order}
 use Rattle.sides.specs.Poses.{squares}
 use Rattle.sides.proofs.Descending.{first_insert, squares_descending}
 use Rattle.sides.proofs.NearHeads.{NearHead, sum_near_head}
 use Rattle.forms.specs.Kinds.{is_signalling, is_infinite, is_quiet}
-use Rattle.triangle.specs.Outcome.{Outcome, not_a_number, infinite, root_of, some, magnitude, sum_of_squares, hypot_outcome}
+use Rattle.triangle.specs.Outcome.{not_a_number, infinite, root_of, some, magnitude, sum_of_squares, hypot_outcome}
 use Rattle.triangle.specs.Answer.{root_pattern, special_pattern}
 use Rattle.lengths.specs.Asked.{sum_of, magnitudes, radicand, largest, head_of}
 use Rattle.lengths.specs.Plain.{all_zero, is_empty, others_far, longest, longest_pattern, zero_pattern, plain_root}
 use Rattle.lengths.specs.Finite.{OfForm, side_pattern}
 use Rattle.triangle.proofs.Answering.{writes}
 use Rattle.lengths.proofs.Finites.{zero_value}
-use Rattle.lengths.proofs.PlainCases.{Values, none, more, no_more, one_more, no_some, sum_values, all_zero_is, longest_value, longest_is, reading_pattern, far_others}
+use Rattle.lengths.proofs.PlainCases.{Values, none, more, no_more, one_more, sum_values, all_zero_is, longest_value, longest_is, reading_pattern, far_others}
 use Rattle.lengths.proofs.AskedLengths.{squares_of}
 use Rattle.lengths.proofs.FarLengths.{length_above}
-use Rattle.lengths.proofs.Sorted.{Sided, reading_sided, zero_sided_of, Two, Three, two_sorted, three_sorted}
+use Rattle.lengths.proofs.Sorted.{Sided, reading_sided, Three, three_sorted}
 use Rattle.lengths.proofs.RightAsked.{RightAsked}
-
-pub same_some : {P : Type 0} (a b : P) → ◌≡◌ {A = Option P} (Some a) (Some b) → a ≡ b
-same_some a b e = ap (λ o. unwrap_or o a) e
+use Rattle.lengths.proofs.TwoSides.{nothing, nothing_of_form, same_plain, same_largest, same_head}
 
 pub none_of_two : {P : Type 0} (x y : P) (a b : Bool) → cond a (Some x) (cond b (Some y) None) ≡ None → (a ≡ false) × (b ≡ false)
-none_of_two x y true b e = absurd (no_some x e)
-none_of_two x y false true e = absurd (no_some y e)
+none_of_two x y true b e = cc
+none_of_two x y false true e = cc
 none_of_two x y false false e = (refl, refl)
 
-root_value : Outcome → ℕ
-root_value not_a_number = 0
-root_value infinite = 0
-root_value (root_of n) = n
-
-is_root : Outcome → Bool
-is_root not_a_number = false
-is_root infinite = false
-is_root (root_of n) = true
-
-no_root : (m : ℕ) → not_a_number ≡ root_of m → ⊥
-unfolding is_root
-no_root m e = true≢false (sym (ap is_root e))
-
-not_infinite : (m : ℕ) → infinite ≡ root_of m → ⊥
-unfolding is_root
-not_infinite m e = true≢false (sym (ap is_root e))
-
-pub same_root : (n m : ℕ) → root_of n ≡ root_of m → m ≡ n
-unfolding root_value
-same_root n m e = sym (ap root_value e)
-
 root_chosen : (a b c : Bool) (n m : ℕ) → cond a not_a_number (cond b infinite (cond c not_a_number (root_of n))) ≡ root_of m → m ≡ n
-root_chosen true b c n m e = absurd (no_root m e)
-root_chosen false true c n m e = absurd (not_infinite m e)
-root_chosen false false true n m e = absurd (no_root m e)
-root_chosen false false false n m e = same_root n m e
+root_chosen true b c n m e = cc
+root_chosen false true c n m e = cc
+root_chosen false false true n m e = cc
+root_chosen false false false n m e = cc
 
 pub leg_chosen_root : (a b c d : Bool) (n m : ℕ) → cond a not_a_number (cond b not_a_number (cond c infinite (cond d not_a_number (root_of n)))) ≡ root_of m → m ≡ n
-leg_chosen_root true b c d n m e = absurd (no_root m e)
-leg_chosen_root false true c d n m e = absurd (no_root m e)
-leg_chosen_root false false true d n m e = absurd (not_infinite m e)
-leg_chosen_root false false false true n m e = absurd (no_root m e)
-leg_chosen_root false false false false n m e = same_root n m e
+leg_chosen_root true b c d n m e = cc
+leg_chosen_root false true c d n m e = cc
+leg_chosen_root false false true d n m e = cc
+leg_chosen_root false false false true n m e = cc
+leg_chosen_root false false false false n m e = cc
 
 all_zero_sum : (sides : List Reading) → all_zero sides ≡ true → sum_of_squares sides ≡ 0
 all_zero_sum [] e = refl
@@ -125,28 +101,14 @@ module _ {P : Type 0} (encoding : Encoding P) (law : Lawful encoding) where
       where
         go : (a b : Bool) → all_zero (x ∷ xs) ≡ a → others_far (descending (magnitudes (x ∷ xs))) ≡ b
             → cond a (Some (zero_pattern encoding)) (cond b (Some (longest_pattern encoding (x ∷ xs))) None) ≡ Some p → p ≡ root_pattern encoding (sum_of_squares (x ∷ xs))
-        go true b z f e = sym (same_some (zero_pattern encoding) p e) ∙ zero_root ∙ ap (root_pattern encoding) (sym (all_zero_sum (x ∷ xs) z))
-        go false true z f e = sym (same_some (longest_pattern encoding (x ∷ xs)) p e) ∙ longest_is_first ∙ far_root (far (ap others_far (sym sorted) ∙ f) (some_length z))
-        go false false z f e = absurd (no_some p (sym e))
+        go true b z f e = let q : p ≡ zero_pattern encoding = cc in q ∙ zero_root ∙ ap (root_pattern encoding) (sym (all_zero_sum (x ∷ xs) z))
+        go false true z f e = let q : p ≡ longest_pattern encoding (x ∷ xs) = cc in q ∙ longest_is_first ∙ far_root (far (ap others_far (sym sorted) ∙ f) (some_length z))
+        go false false z f e = cc
 
 -- Far sides are small together.
 
 far_square : (u v : ℕ) → is_far u v ≡ true → v * v * 2 ^ 54 < u * u
 far_square u v f = let h : v * 2 ^ 27 < u = ltb-true (v * 2 ^ 27) u f in omega (arith, mul-lt _ _ _ _ h h)
-
-one_far : (u v : ℕ) → others_far (u ∷ v ∷ []) ≡ true → is_far u v ≡ true
-one_far u v e = go (is_far u v) refl e
-  where
-    go : (b : Bool) → is_far u v ≡ b → is_empty (cond b [] (v ∷ [])) ≡ true → is_far u v ≡ true
-    go true q e = q
-    go false q e = absurd (true≢false (sym e))
-
-one_near : (u v : ℕ) → others_far (u ∷ v ∷ []) ≡ false → is_far u v ≡ false
-one_near u v e = go (is_far u v) refl e
-  where
-    go : (b : Bool) → is_far u v ≡ b → is_empty (cond b [] (v ∷ [])) ≡ false → is_far u v ≡ false
-    go true q e = absurd (true≢false e)
-    go false q e = q
 
 both_far : (u v w : ℕ) → others_far (u ∷ v ∷ w ∷ []) ≡ true → (is_far u v ≡ true) × (is_far u w ≡ true)
 both_far u v w e = go (is_far u v) (is_far u w) refl refl e
@@ -156,24 +118,9 @@ both_far u v w e = go (is_far u v) (is_far u w) refl refl e
     go true false p q e = absurd (true≢false (sym e))
     go false c p q e = absurd (true≢false (sym e))
 
--- Near heads of two and three sides.
+-- Near heads of three sides, and of two.
 
 module _ {P : Type 0} (encoding : Encoding P) (law : Lawful encoding) where
-  -- two sides have the head of these and a third of no length, which is far
-  two_head : (u v : ℕ) → Sided encoding.form u → Sided encoding.form v → v ≤ u → 0 < u → is_far u v ≡ false → NearHead (sum_in_order (u ∷ v ∷ [])) (squares (u ∷ v ∷ [])) u
-  two_head u v U V l h f =
-      let Z = zero_sided_of encoding.form law.in_range in
-      let k = sum_near_head U.side V.side Z.side
-      (subst (λ (x : ℕ). 0 < x) (sym U.units_are) h)
-      (let o : side_units V.side ≤ side_units U.side = omega (arith, U.units_are, V.units_are) in o)
-      (let o : side_units Z.side ≤ side_units U.side = omega (arith, Z.units_are) in o)
-      ((λ i. is_far (U.units_are i) (V.units_are i)) ∙ f) in
-      let gone : is_far u 0 ≡ true = lt-ltb 0 u h in
-      let without : sum_in_order (u ∷ v ∷ 0 ∷ []) ≡ sum_in_order (u ∷ v ∷ []) =
-      λ i. add_squares u (scaled_square u u) (cond (is_far u v) (cond (gone i) [] (0 ∷ [])) (v ∷ cond (gone i) [] (0 ∷ []))) in
-      subst (λ (g : Float). NearHead g (squares (u ∷ v ∷ [])) u) without
-      (subst (λ (l : List ℕ). NearHead (sum_in_order l) (squares l) (first l)) (λ i. U.units_are i ∷ V.units_are i ∷ Z.units_are i ∷ []) k)
-
   three_head : (u v w : ℕ) → Sided encoding.form u → Sided encoding.form v → Sided encoding.form w → v ≤ u → w ≤ v → 0 < u → is_far u v ≡ false
       → NearHead (sum_in_order (u ∷ v ∷ w ∷ [])) (squares (u ∷ v ∷ w ∷ [])) u
   three_head u v w U V W l o h f =
@@ -189,29 +136,6 @@ module _ {P : Type 0} (encoding : Encoding P) (law : Lawful encoding) where
   headed_as sides l e k =
       subst (λ (n : ℕ). NearHead (head_of (sum_of sides)) n (largest (sum_of sides))) (squares_descending (magnitudes sides) ∙ squares_of sides)
       (subst (λ (m : List ℕ). NearHead (sum_in_order m) (squares m) (first m)) (sym e) k)
-
-  -- two sides
-  module _ (x y : Reading) (X : OfForm encoding.form x) (Y : OfForm encoding.form y) where
-    sorted_two : Values encoding.form (x ∷ y ∷ []) → Two encoding.form (descending (magnitudes (x ∷ y ∷ [])))
-    sorted_two (more a (more b none)) =
-        two_sorted encoding.form (magnitude x) (magnitude y) (reading_sided encoding.form law.in_range x a) (reading_sided encoding.form law.in_range y b)
-
-    two_values : special_pattern encoding (hypot_outcome (x ∷ y ∷ [])) ≡ None → Values encoding.form (x ∷ y ∷ [])
-    two_values s = sum_values encoding (x ∷ y ∷ []) (one_more X (one_more Y no_more)) s
-
-    pub right_two : RightAsked encoding (sum_of (x ∷ y ∷ []))
-    right_two = record {
-      root = λ m e. root_chosen (some is_signalling (x ∷ y ∷ [])) (some is_infinite (x ∷ y ∷ [])) (some is_quiet (x ∷ y ∷ [])) (sum_of_squares (x ∷ y ∷ [])) m e;
-      plain_right = λ p e s. let t = sorted_two (two_values s) in
-          plain_sum_right encoding law x (y ∷ []) (two_values s) t.u (t.v ∷ []) t.first_sided t.are
-          (λ f h. omega (arith, far_square t.u t.v (one_far t.u t.v f))) p e;
-      headed = λ e s.
-          let t = sorted_two (two_values s) in
-          let b = none_of_two (zero_pattern encoding) (longest_pattern encoding (x ∷ y ∷ [])) (all_zero (x ∷ y ∷ [])) (others_far (descending (magnitudes (x ∷ y ∷ [])))) e in
-          headed_as (x ∷ y ∷ []) (t.u ∷ t.v ∷ []) t.are
-          (two_head t.u t.v t.first_sided t.second_sided t.second (some_length encoding law x (y ∷ []) (two_values s) t.u (t.v ∷ []) t.first_sided t.are b.0)
-          (one_near t.u t.v (ap others_far (sym t.are) ∙ b.1)));
-    }
 
   -- three sides
   module _ (x y z : Reading) (X : OfForm encoding.form x) (Y : OfForm encoding.form y) (Z : OfForm encoding.form z) where
@@ -237,3 +161,15 @@ module _ {P : Type 0} (encoding : Encoding P) (law : Lawful encoding) where
           (some_length encoding law x (y ∷ z ∷ []) (three_values s) t.u (t.v ∷ t.w ∷ []) t.first_sided t.are b.0)
           (sym (far_others encoding law t.u t.v t.w t.third) ∙ ap others_far (sym t.are) ∙ b.1));
     }
+
+  -- two sides
+  pub right_two : (x y : Reading) → OfForm encoding.form x → OfForm encoding.form y → RightAsked encoding (sum_of (x ∷ y ∷ []))
+  right_two x y X Y =
+      let three = right_three x y nothing X Y (nothing_of_form encoding.form law.in_range) in
+      record {
+        root = three.root;
+        plain_right = λ p e s. three.plain_right p (same_plain encoding x y ∙ e) s;
+        headed = λ e s.
+            subst (λ (h : Float). NearHead h (radicand (sum_of (x ∷ y ∷ []))) (largest (sum_of (x ∷ y ∷ [])))) (same_head encoding x y e)
+            (subst (NearHead (head_of (sum_of (x ∷ y ∷ nothing ∷ []))) (radicand (sum_of (x ∷ y ∷ [])))) (same_largest encoding x y) (three.headed (same_plain encoding x y ∙ e) s));
+      }

@@ -1,6 +1,7 @@
 -- A posed root: its proposal is near enough to walk from, its floor root is that of the exact radicand, and the bits that rounding
 -- drops tell the exponent.
-use Rattle.std.proofs.Common.{◌≡◌, ℕ, ◌+◌, ◌-◌, ◌*◌, ◌/◌, ◌%◌, ◌^◌, ◌<◌, ◌≤◌, sym, ap, ◌∙◌, subst, mul-le-mul_right, mod-lt, mul_assoc, le_antisymm, lt_of_mul-lt-mul_right, div-add-mod', arith, pow-add}
+use Rattle.std.proofs.Common.{◌≡◌, ℕ, ◌+◌, ◌-◌, ◌*◌, ◌/◌, ◌%◌, ◌^◌, ◌<◌, ◌≤◌, sym, ap, ◌∙◌, subst, mul-le-mul_right, mod-lt, mul_assoc, div-add-mod', arith, pow-add}
+use Rattle.std.proofs.Math.Nat.{div-eq_of_lt-le}
 use lib.Ieee.{Float, size}
 use lib.Ieee.Digits.{size-lt, size-le}
 use Rattle.exact.specs.Root.{isqrt}
@@ -17,23 +18,13 @@ use Rattle.sides.specs.Poses.{Poses}
 use Rattle.sides.proofs.Fractions.{floor_of}
 use Rattle.lengths.specs.LengthOf.{floor_root_at, walk_count}
 
--- a whole part is told by its bounds
-whole_part : (x m f : ℕ) → 0 < m → f * m ≤ x → x < (f + 1) * m → x / m ≡ f
-whole_part x m f p lo hi =
-    let q = x / m in
-    let d = div-add-mod' x m in
-    let r = mod-lt x p in
-    let a : q < f + 1 = lt_of_mul-lt-mul_right m (omega (arith, d, hi)) in
-    let b : f < q + 1 = lt_of_mul-lt-mul_right m (omega (arith, d, r, lo)) in
-    le_antisymm (omega arith) (omega arith)
-
 -- the whole part of a quarter
 quarter_part : (x m f b : ℕ) → 0 < m → b < 4 → 4 * x / m ≡ 4 * f + b → x / m ≡ f
 quarter_part x m f b p h e =
     let d : (4 * f + b) * m + 4 * x % m ≡ 4 * x = ap (λ (z : ℕ). z * m + 4 * x % m) (sym e) ∙ div-add-mod' (4 * x) m in
     let r : 4 * x % m < m = mod-lt (4 * x) p in
     let c : b * m ≤ 3 * m = mul-le-mul_right m (omega arith) in
-    whole_part x m f p (omega (arith, d)) (omega (arith, d, r, c))
+    div-eq_of_lt-le m (omega (arith, d)) (omega (arith, d, r, c))
 
 module _ (h : Float) (n largest : ℕ) (p : Posed) (poses : Poses h n largest p) where
   abbrev M : ℕ

@@ -9,7 +9,7 @@ use Rattle.sides.specs.Order.{side_units, insert, descending}
 use Rattle.sides.proofs.Sizes.{zero_sized, full_sized}
 use Rattle.triangle.specs.Outcome.{magnitude}
 use Rattle.lengths.specs.Finite.{SideValue}
-use Rattle.lengths.proofs.Finites.{zero_value, value_short, value_low}
+use Rattle.lengths.proofs.Finites.{value_short, value_low}
 use Rattle.lengths.proofs.PlainCases.{IsValue}
 use Rattle.forms.specs.declared.reading.Reading.{Reading}
 
@@ -42,9 +42,6 @@ module _ (form : Form) (ok : InRange form) where
 
   pub reading_sided : (r : Reading) → IsValue form r → Sided form (magnitude r)
   reading_sided r v = subst (Sided form) (sym (ap magnitude v.is)) (magnitude_sided v.k v.e v.value (eq-zero-or-pos v.k))
-
-  pub zero_sided_of : Sided form 0
-  zero_sided_of = subst (Sided form) (let z : units 0 0 ≡ 0 = refl in z) (magnitude_sided 0 0 (zero_value form ok) (inl refl))
 
 -- two or three sides in order
 pub record Two (form : Form) (sides : List ℕ) : Type 0 where

@@ -88,9 +88,6 @@ impl<F: NumberForm> FiniteSide<F> {
     pub fn pattern(&self) -> Option<F::Pattern>
         ensures { result ≡ Some (side_pattern F.NumberForm.encoding self.now.side) }
     {
-        F::write(
-            self.side.magnitude.significand,
-            self.side.magnitude.exponent,
-        )
+        F::write(self.side.magnitude)
     }
 }

@@ -8,7 +8,7 @@ ghost use Rattle.lengths.specs.Posed.{PosedUnlessPlain};
 
 use crate::call::{Call, Measured};
 use crate::finite::{FiniteSide, SideReading};
-use crate::plain::{plain_leg, plain_sum, special_leg, special_sum};
+use crate::plain::{plain_leg, plain_sum, special_leg};
 use crate::root::root_length;
 use forms::number_form::NumberForm;
 use sides::order::descending;
@@ -17,6 +17,7 @@ use sides::posed::Posed;
 use sources::root_source::RootSource;
 use std::marker::PhantomData;
 use std::ops::ControlFlow;
+use triangle::answer::special_pattern;
 
 /// The pattern and the count of a call, in any form, with any source of a grade of at most 7. The bound
 /// is for inner callers; every pattern is accepted.
@@ -65,7 +66,7 @@ fn three_sides<F: NumberForm>(
 ) -> ControlFlow<F::Pattern, Posed>
     ensures { PosedUnlessPlain F.NumberForm.encoding (sum_of (x.reading ∷ y.reading ∷ z.reading ∷ [])) result }
 {
-    if let Some(pattern) = special_sum::<F>(&[x.reading, y.reading, z.reading]) {
+    if let Some(pattern) = special_pattern::<F>(&[x.reading, y.reading, z.reading]) {
         return ControlFlow::Break(pattern);
     }
     let sides = descending(x.finite().side, y.finite().side, z.finite().side);

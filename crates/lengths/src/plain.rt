@@ -8,25 +8,10 @@ ghost use Rattle.lengths.specs.Plain.{zero_pattern};
 ghost use Rattle.lengths.specs.Finite.{side_pattern};
 
 use crate::finite::FiniteSide;
+use exact::length::Magnitude;
 use forms::number_form::NumberForm;
 use forms::reading::Reading;
 use sides::side::Side;
-
-/// The pattern that answers for a sum of squares where a side is no finite number, and nothing where
-/// all are finite. A signalling NaN comes first, then an infinity, then a quiet NaN.
-pub fn special_sum<F: NumberForm>(sides: &[Reading]) -> Option<F::Pattern>
-    ensures { result ≡ special_pattern F.NumberForm.encoding (hypot_outcome sides.now) }
-{
-    if sides.iter().any(is_signalling) {
-        Some(F::quiet_nan())
-    } else if sides.iter().any(is_infinite) {
-        Some(F::plus_infinity())
-    } else if sides.iter().any(is_quiet) {
-        Some(F::quiet_nan())
-    } else {
-        None
-    }
-}
 
 /// The pattern that answers for a leg where a side is no finite number, or the hypotenuse is the
 /// shorter side, and nothing else. A NaN comes first, then an infinite leg, then an infinite
@@ -39,9 +24,9 @@ pub fn special_leg<F: NumberForm>(
     requires { shorter ≡ nat_lt (magnitude hypotenuse) (magnitude leg) }
     ensures { result ≡ special_pattern F.NumberForm.encoding (leg_outcome hypotenuse leg) }
 {
-    if is_nan(&hypotenuse) || is_nan(&leg) || is_infinite(&leg) {
+    if hypotenuse.is_nan() || leg.is_nan() || leg.is_infinite() {
         Some(F::quiet_nan())
-    } else if is_infinite(&hypotenuse) {
+    } else if hypotenuse.is_infinite() {
         Some(F::plus_infinity())
     } else if shorter {
         Some(F::quiet_nan())
@@ -67,34 +52,13 @@ pub fn plain_leg<F: NumberForm>(hypotenuse: &FiniteSide<F>, leg: Side) -> Option
     ensures { result ≡ (if nat_le (side_units hypotenuse.now.side) (side_units leg) then Some (zero_pattern F.NumberForm.encoding) else (if is_far (side_units hypotenuse.now.side) (side_units leg) then Some (side_pattern F.NumberForm.encoding hypotenuse.now.side) else None)) }
 {
     if !leg.is_shorter(hypotenuse.side) {
-        F::write(0, 0)
+        F::write(Magnitude {
+            significand: 0,
+            exponent: 0,
+        })
     } else if leg.is_far(hypotenuse.side) {
         hypotenuse.pattern()
     } else {
         None
     }
-}
-
-fn is_signalling(reading: &Reading) -> bool
-    ensures { result ≡ is_signalling reading.now }
-{
-    matches!(reading, Reading::SignallingNan)
-}
-
-fn is_infinite(reading: &Reading) -> bool
-    ensures { result ≡ is_infinite reading.now }
-{
-    matches!(reading, Reading::Infinite { .. })
-}
-
-fn is_quiet(reading: &Reading) -> bool
-    ensures { result ≡ is_quiet reading.now }
-{
-    matches!(reading, Reading::QuietNan)
-}
-
-fn is_nan(reading: &Reading) -> bool
-    ensures { result ≡ is_nan reading.now }
-{
-    is_signalling(reading) || is_quiet(reading)
 }

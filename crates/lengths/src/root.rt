@@ -2,11 +2,11 @@
 //! and the pattern of that.
 ghost use Rattle.std.specs.Prelude.{◌≡◌, ℕ, ◌^◌, ◌≤◌, Float};
 ghost use Rattle.sides.specs.Poses.{Poses};
-ghost use Rattle.walk.specs.Rounded.{after_carry};
 ghost use Rattle.lengths.specs.LengthOf.{root_length};
 ghost use Rattle.lengths.specs.Posed.{PosedRoot};
 
 use crate::call::Measured;
+use exact::length::Magnitude;
 use forms::number_form::NumberForm;
 use sides::posed::Posed;
 use sources::root_source::RootSource;
@@ -24,9 +24,13 @@ pub fn root_length<F: NumberForm, R: RootSource>(source: &R, posed: Posed) -> Me
     let unit = 24 + posed.places;
     let least = unit.saturating_sub(posed.bits);
     let rounded = rounded_root(posed.radicand, proposal, F::form().precision, least);
-    let exponent = carry(posed.bits + rounded.dropped - unit, rounded.carried);
+    let exponent = posed.bits + rounded.dropped - unit + u32::from(rounded.carried);
+    let magnitude = Magnitude {
+        significand: rounded.significand,
+        exponent,
+    };
     Measured {
-        pattern: written_or_infinity::<F>(rounded.significand, exponent),
+        pattern: written_or_infinity::<F>(magnitude),
         count: rounded.count,
     }
 }
@@ -40,12 +44,4 @@ fn proposal_for<R: RootSource>(source: &R, word: u64) -> u64
         unreachable()
     };
     proposal
-}
-
-// The exponent, one more after a carry.
-fn carry(exponent: u32, carried: bool) -> u32
-    requires { exponent ≤ 5000 }
-    ensures { result ≡ after_carry carried exponent }
-{
-    if carried { exponent + 1 } else { exponent }
 }
