@@ -1,5 +1,4 @@
 //! Calls one by one, and the steps left after each.
-use crate::shown::{ShownRefusal, print_measured};
 use anyhow::anyhow;
 use forms::binary::Binary64;
 use lengths::call::Measured;
@@ -48,14 +47,8 @@ fn print_result(
     steps_left: u64,
 ) -> io::Result<()> {
     match res {
-        Ok(measured) => {
-            print!(rt; "  {name}")?;
-            print_measured(rt, measured)?;
-        }
-        Err(refusal) => {
-            let refusal = ShownRefusal(refusal.numbered());
-            println!(rt; "  {name}: {refusal}")?;
-        }
+        Ok(measured) => println!(rt; "  {name} = {measured}")?,
+        Err(refusal) => println!(rt; "  {name}: {}", refusal.numbered())?,
     }
     println!(rt; "  steps left {steps_left}")
 }

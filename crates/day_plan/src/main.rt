@@ -5,7 +5,6 @@
 mod calls;
 mod scans;
 mod sealings;
-mod shown;
 mod tables;
 
 fn run(rt: &HostRuntime) -> anyhow::Result<()> {

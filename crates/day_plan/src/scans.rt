@@ -1,19 +1,18 @@
 //! Scans of single calls: each solver's log, and the account of its scans.
 use crate::sealings::refined;
-use crate::shown::{ShownRefusal, print_call, print_measured};
 use anyhow::anyhow;
 use float_source::FloatSource;
 use forms::binary::{Binary32, Binary64};
 use forms::number_form::NumberForm;
 use forms::thousandths::Thousandths;
 use lengths::call::Call;
-use solver::log::{Entry, Reply, Request};
+use solver::log::{Done, Entry, Request};
 use solver::session::{NoSession, keep_log};
 use solver::states::Solver;
 use sources::digit::DigitSource;
 use sources::root_source::RootSource;
 use sources::table::TableSource;
-use std::io;
+use std::{fmt, io};
 
 /// The sessions of the day.
 pub fn print_scans(rt: &HostRuntime) -> anyhow::Result<()> {
@@ -92,22 +91,25 @@ fn thousandths_requests() -> [Request<u32>; 7] {
 }
 
 // Runs the requests on the solver, and prints their log with the account of each scan.
-fn print_session<P: Copy + Drop + Into<u64>, F: NumberForm<Pattern = P>, R: RootSource + Drop>(
+fn print_session<F, R>(
     rt: &HostRuntime,
     solver: Solver<F, R>,
     allowance: u64,
-    requests: &[Request<P>],
-) -> anyhow::Result<()> {
+    requests: &[Request<F::Pattern>],
+) -> anyhow::Result<()>
+where
+    F: NumberForm,
+    F::Pattern: Drop + fmt::Radix,
+    R: RootSource + Drop,
+{
     match keep_log(rt.alloc(), solver, allowance, requests) {
         Ok(session) => {
             print_log(rt, allowance, &session.log)?;
-            let steps_left = session.steps_left;
-            println!(rt; "  seal broken, steps left {steps_left}")?;
+            println!(rt; "  seal broken, steps left {}", session.steps_left)?;
             Ok(())
         }
         Err(NoSession::Sealing { refused }) => {
-            let refusal = ShownRefusal(refused.refusal.numbered());
-            println!(rt; "  {refusal}")?;
+            println!(rt; "  {}", refused.refusal.numbered())?;
             Ok(())
         }
         Err(NoSession::Memory { .. }) => Err(anyhow!("no memory for a log")),
@@ -115,27 +117,23 @@ fn print_session<P: Copy + Drop + Into<u64>, F: NumberForm<Pattern = P>, R: Root
 }
 
 // Prints a log entry by entry, and the account of each scan at its end.
-fn print_log<P: Copy + Into<u64>>(
+fn print_log<P: Copy + fmt::Radix>(
     rt: &HostRuntime,
     allowance: u64,
     log: &[Entry<P>],
 ) -> io::Result<()> {
     let mut counted: u64 = 0;
     for entry in log {
+        let request = entry.request;
         match entry.reply {
-            Reply::Served { measured } => {
-                print_request(rt, entry.request)?;
-                print_measured(rt, measured)?;
+            Ok(Done::Served { measured }) => {
+                println!(rt; "  {request} = {measured}")?;
                 counted = counted.saturating_add(measured.count);
             }
-            Reply::Refused { refusal } => {
-                print_request(rt, entry.request)?;
-                let refusal = ShownRefusal(refusal.numbered());
-                println!(rt; ": {refusal}")?;
-            }
-            Reply::Renewed => {
+            Err(refusal) => println!(rt; "  {request}: {}", refusal.numbered())?,
+            Ok(Done::Renewed) => {
                 print_account(rt, allowance, counted)?;
-                println!(rt; "  new scan")?;
+                println!(rt; "  {request}")?;
                 counted = 0;
             }
         }
@@ -147,12 +145,4 @@ fn print_log<P: Copy + Into<u64>>(
 fn print_account(rt: &HostRuntime, allowance: u64, counted: u64) -> io::Result<()> {
     let steps_left = allowance.saturating_sub(counted);
     println!(rt; "  account: counts {counted}, steps left {steps_left}, allowance {allowance}")
-}
-
-fn print_request<P: Copy + Into<u64>>(rt: &HostRuntime, request: Request<P>) -> io::Result<()> {
-    print!(rt; "  ")?;
-    match request {
-        Request::Length { call } => print_call(rt, call),
-        Request::NewScan => print!(rt; "new scan"),
-    }
 }

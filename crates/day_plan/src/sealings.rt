@@ -1,5 +1,4 @@
 //! Which solvers can be sealed.
-use crate::shown::ShownRefusal;
 use anyhow::anyhow;
 use constant_source::ConstantSource;
 use float_source::FloatSource;
@@ -59,7 +58,7 @@ fn print_sealing<R: RootSource + Drop>(
             )
         }
         Err(refused) => {
-            let refusal = ShownRefusal(refused.refusal.numbered());
+            let refusal = refused.refusal.numbered();
             println!(rt; "  {name}, allowance {allowance}: {refusal}")
         }
     }

@@ -1,5 +1,4 @@
 //! Columns: through a refusal and a new scan, and at the limits of their lengths.
-use crate::shown::ShownRefusal;
 use anyhow::anyhow;
 use columns::column::{Operation, length_column};
 use columns::refusal::ColumnRefusal;
@@ -121,7 +120,7 @@ fn print_outcome<R: RootSource>(
     match outcome {
         Ok(()) => println!(rt; "served, steps left {steps_left}"),
         Err(refusal) => {
-            let refusal = ShownRefusal(refusal.numbered());
+            let refusal = refusal.numbered();
             println!(rt; "{refusal}, steps left {steps_left}")
         }
     }

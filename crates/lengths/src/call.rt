@@ -1,4 +1,5 @@
 //! Length calls on patterns.
+use std::fmt;
 
 /// What a length call asks for, with the patterns of its sides.
 #[derive(Clone, Copy, PartialEq, Eq, Debug)]
@@ -16,4 +17,22 @@ pub enum Call<P> {
 pub struct Measured<P> {
     pub pattern: P,
     pub count: u64,
+}
+
+/// The call's name and its patterns in hexadecimal digits.
+impl<P: Copy + fmt::Radix> fmt::Display for Call<P> {
+    fn fmt<W: fmt::Write>(&self, f: &mut fmt::Formatter<W>) -> fmt::Result {
+        match *self {
+            Call::Hypot { x, y } => write!(f, "hypot {x:x} {y:x}"),
+            Call::Cathetus { hypotenuse, leg } => write!(f, "cathetus {hypotenuse:x} {leg:x}"),
+            Call::ThreeSides { x, y, z } => write!(f, "three sides {x:x} {y:x} {z:x}"),
+        }
+    }
+}
+
+/// The pattern in hexadecimal digits, and the count.
+impl<P: Copy + fmt::Radix> fmt::Display for Measured<P> {
+    fn fmt<W: fmt::Write>(&self, f: &mut fmt::Formatter<W>) -> fmt::Result {
+        write!(f, "{:x}, count {}", self.pattern, self.count)
+    }
 }

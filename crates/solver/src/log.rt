@@ -5,12 +5,22 @@ ghost use Rattle.solver.specs.Law.{EveryLog, OneLog};
 
 use crate::refusal::CallRefusal;
 use lengths::call::{Call, Measured};
+use std::fmt;
 
 /// A request to a sealed solver.
 #[derive(Clone, Copy, PartialEq, Eq, Debug)]
 pub enum Request<P> {
     Length { call: Call<P> },
     NewScan,
+}
+
+impl<P: Copy + fmt::Radix> fmt::Display for Request<P> {
+    fn fmt<W: fmt::Write>(&self, f: &mut fmt::Formatter<W>) -> fmt::Result {
+        match self {
+            Request::Length { call } => write!(f, "{call}"),
+            Request::NewScan => write!(f, "new scan"),
+        }
+    }
 }
 
 /// What a sealed solver has done for a request.

@@ -2,6 +2,8 @@
 ghost use Rattle.std.specs.Prelude.{◌≡◌};
 ghost use Rattle.solver.specs.Refusals.{seal_numbered, call_numbered};
 
+use std::fmt;
+
 /// Why a sealing is refused.
 #[derive(Clone, Copy, PartialEq, Eq, Debug)]
 pub enum SealRefusal {
@@ -24,6 +26,20 @@ pub struct Numbered {
     pub number: u32,
     pub place: Option<usize>,
     pub value: Option<u64>,
+}
+
+/// The number, then the place and the value where they are told.
+impl fmt::Display for Numbered {
+    fn fmt<W: fmt::Write>(&self, f: &mut fmt::Formatter<W>) -> fmt::Result {
+        write!(f, "refusal {}", self.number)?;
+        if let Some(place) = self.place {
+            write!(f, " at {place}")?;
+        }
+        if let Some(value) = self.value {
+            write!(f, " ({value})")?;
+        }
+        Ok(())
+    }
 }
 
 impl SealRefusal {
