@@ -20,7 +20,7 @@ use Rattle.lengths.specs.Asked.{Asked, sum_of, difference_of, outcome, magnitude
 use Rattle.lengths.specs.Plain.{zero_pattern, or_else, plain_root, plain}
 use Rattle.lengths.specs.Finite.{OfForm, SideValue, side_pattern}
 use Rattle.lengths.specs.LengthOf.{root_length, unless_plain, length_asked}
-use Rattle.lengths.proofs.PlainCases.{no_more, one_more, sum_values, plain_sum_is, leg_values, plain_leg_is}
+use Rattle.lengths.proofs.PlainCases.{none, more, sum_values, plain_sum_is, leg_values, plain_leg_is}
 
 module _ {P : Type 0} (encoding : Encoding P) (a : Asked) where
   -- where nothing is special, a plain case is one of finite sides
@@ -66,7 +66,7 @@ module _ {P : Type 0} (encoding : Encoding P) (law : Lawful encoding) (x y z : R
   pub three_plain : plain encoding asked_sum ≡ tested
   three_plain =
       plain_by_root encoding asked_sum tested special
-      (plain_sum_is encoding law x y z o (sum_values encoding (x ∷ y ∷ z ∷ []) (one_more a (one_more b (one_more c no_more))) special) side sorted)
+      (plain_sum_is encoding law x y z o (sum_values encoding (x ∷ y ∷ z ∷ []) (more a (more b (more c none))) special) side sorted)
 
 -- a leg, its sides not special
 module _ {P : Type 0} (encoding : Encoding P) (law : Lawful encoding) (x y : Reading) (s t : Side)

@@ -39,17 +39,19 @@ finite_value form (Infinite n) o a b c = cc
 finite_value form QuietNan o a b c = cc
 finite_value form SignallingNan o a b c = cc
 
-pub data Values (form : Form) : List Reading → Type 0 where
-  none : Values form []
-  more : {r : Reading} {sides : List Reading} → IsValue form r → Values form sides → Values form (r ∷ sides)
+pub data Each (P : Reading → Type 0) : List Reading → Type 0 where
+  none : Each P []
+  more : {r : Reading} {sides : List Reading} → P r → Each P sides → Each P (r ∷ sides)
 
-pub data OfForms (form : Form) : List Reading → Type 0 where
-  no_more : OfForms form []
-  one_more : {r : Reading} {sides : List Reading} → OfForm form r → OfForms form sides → OfForms form (r ∷ sides)
+abbrev pub Values : Form → List Reading → Type 0
+Values form = Each (IsValue form)
+
+abbrev pub OfForms : Form → List Reading → Type 0
+OfForms form = Each (OfForm form)
 
 all_values : (form : Form) (sides : List Reading) → OfForms form sides → some is_signalling sides ≡ false → some is_infinite sides ≡ false → some is_quiet sides ≡ false → Values form sides
-all_values form [] no_more a b c = none
-all_values form (r ∷ sides) (one_more o os) a b c =
+all_values form [] none a b c = none
+all_values form (r ∷ sides) (more o os) a b c =
     let p = or_parts (is_signalling r) (some is_signalling sides) a in
     let q = or_parts (is_infinite r) (some is_infinite sides) b in
     let s = or_parts (is_quiet r) (some is_quiet sides) c in

@@ -22,7 +22,7 @@ use Rattle.lengths.specs.Plain.{all_zero, is_empty, others_far, longest, longest
 use Rattle.lengths.specs.Finite.{OfForm, side_pattern}
 use Rattle.triangle.proofs.Answering.{writes}
 use Rattle.lengths.proofs.Finites.{zero_value}
-use Rattle.lengths.proofs.PlainCases.{Values, none, more, no_more, one_more, sum_values, all_zero_is, longest_value, longest_is, reading_pattern, far_others}
+use Rattle.lengths.proofs.PlainCases.{Values, none, more, sum_values, all_zero_is, longest_value, longest_is, reading_pattern, far_others}
 use Rattle.lengths.proofs.AskedLengths.{squares_of}
 use Rattle.lengths.proofs.FarLengths.{length_above}
 use Rattle.lengths.proofs.Sorted.{Sided, reading_sided, Three, three_sorted}
@@ -145,7 +145,7 @@ module _ {P : Type 0} (encoding : Encoding P) (law : Lawful encoding) where
         (reading_sided encoding.form law.in_range x a) (reading_sided encoding.form law.in_range y b) (reading_sided encoding.form law.in_range z c)
 
     three_values : special_pattern encoding (hypot_outcome (x ∷ y ∷ z ∷ [])) ≡ None → Values encoding.form (x ∷ y ∷ z ∷ [])
-    three_values s = sum_values encoding (x ∷ y ∷ z ∷ []) (one_more X (one_more Y (one_more Z no_more))) s
+    three_values s = sum_values encoding (x ∷ y ∷ z ∷ []) (more X (more Y (more Z none))) s
 
     pub right_three : RightAsked encoding (sum_of (x ∷ y ∷ z ∷ []))
     right_three = record {
