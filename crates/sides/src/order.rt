@@ -2,12 +2,13 @@
 //!
 //! With their significands brought to full length, sides are in the order of their bits, and at equal
 //! bits in the order of their significands.
-ghost use Rattle.std.specs.Prelude.{◌≡◌, [], ◌∷◌, ◌⊎◌, ◌≤◌, nat_lt, ◌==◌};
-ghost use Rattle.sides.specs.Order.{side_units, insert, descending, is_far};
+ghost use Rattle.std.specs.Prelude.{◌≡◌, [], ◌∷◌, ◌⊎◌, nat_lt, ◌==◌};
+ghost use Rattle.sides.specs.Order.{side_units, descending, is_far};
 ghost use Rattle.sides.specs.Listed.{ordered_units};
 
 use crate::ordered::Ordered;
 use crate::side::Side;
+use std::cmp::Reverse;
 
 impl Side {
     /// Whether this side has no length.
@@ -40,30 +41,12 @@ pub fn descending(a: Side, b: Side, c: Side) -> Ordered
     ensures sorted { ordered_units result ≡ descending (side_units a ∷ side_units b ∷ side_units c ∷ []) }
     ensures first { (result.first.magnitude ≡ a.magnitude) ⊎ ((result.first.magnitude ≡ b.magnitude) ⊎ (result.first.magnitude ≡ c.magnitude)) }
 {
-    if b.is_shorter(c) {
-        inserted(a, c, b)
-    } else {
-        inserted(a, b, c)
-    }
-}
-
-// A side among two others in descending order.
-fn inserted(side: Side, longer: Side, shorter: Side) -> Ordered
-    requires { side_units shorter ≤ side_units longer }
-    ensures sorted { ordered_units result ≡ insert (side_units side) (side_units longer ∷ side_units shorter ∷ []) }
-    ensures first { (result.first.magnitude ≡ side.magnitude) ⊎ (result.first.magnitude ≡ longer.magnitude) }
-{
-    if !side.is_shorter(longer) {
-        return Ordered {
-            first: side,
-            second: longer,
-            third: shorter,
-        };
-    }
-    let shortest = side.is_shorter(shorter);
+    let mut sides = [a, b, c];
+    sides.sort_unstable_by_key(|side| Reverse((side.bits, side.significand)));
+    let [first, second, third] = sides;
     Ordered {
-        first: longer,
-        second: if shortest { shorter } else { side },
-        third: if shortest { side } else { shorter },
+        first,
+        second,
+        third,
     }
 }
