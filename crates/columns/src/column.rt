@@ -105,13 +105,10 @@ fn entry<F: NumberForm, R: RootSource>(
     ensures after { solver.new ≡ after_call F.NumberForm.encoding R.RootSource.meaning solver.old (call_of operation x y) }
     ensures log { Logs F.NumberForm.encoding R.RootSource.meaning solver.old (told_call (call_of operation x y) (call_result F.NumberForm.encoding R.RootSource.meaning solver.old (call_of operation x y))) solver.new }
 {
-    // By `match`, since the refusal gets its place here, which a `From` cannot know.
-    match solver.measure(operation.call(x, y)) {
-        Ok(measured) => {
-            lengths[place] = measured.pattern;
-            counts[place] = measured.count;
-            Ok(())
-        }
-        Err(refusal) => Err(EntryRefused { place, refusal }),
-    }
+    let measured = solver
+        .measure(operation.call(x, y))
+        .map_err(|refusal| EntryRefused { place, refusal })?;
+    lengths[place] = measured.pattern;
+    counts[place] = measured.count;
+    Ok(())
 }

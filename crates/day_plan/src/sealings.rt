@@ -35,10 +35,7 @@ pub fn print_sealings(rt: &HostRuntime) -> anyhow::Result<()> {
 
 /// A source with a number of steps over it.
 pub fn refined<S: RootSource + Drop>(below: S, steps: u32) -> anyhow::Result<Refiner<S>> {
-    match Refiner::new(below, steps) {
-        Ok(refiner) => Ok(refiner),
-        Err(_) => Err(anyhow!("a number of steps other than 1 to 4")),
-    }
+    Refiner::new(below, steps).map_err(|_| anyhow!("a number of steps other than 1 to 4"))
 }
 
 // Seals a solver over the source, and breaks the seal again.

@@ -50,13 +50,6 @@ impl Form {
 mod tests {
     use super::*;
 
-    fn magnitude(significand: u64, exponent: u32) -> Magnitude {
-        Magnitude {
-            significand,
-            exponent,
-        }
-    }
-
     #[test]
     fn edges_of_a_form(rt: HostRuntime) {
         let form = Form {
@@ -65,14 +58,14 @@ mod tests {
             span: 4,
             largest: 6,
         };
-        assert!(rt; form.contains(magnitude(0, 0)));
-        assert!(rt; form.contains(magnitude(1, 0)));
-        assert!(rt; form.contains(magnitude(7, 3)));
-        assert!(rt; !form.contains(magnitude(8, 3)));
-        assert!(rt; form.contains(magnitude(4, 1)));
-        assert!(rt; !form.contains(magnitude(3, 1)));
-        assert!(rt; form.contains(magnitude(6, 4)));
-        assert!(rt; !form.contains(magnitude(7, 4)));
-        assert!(rt; !form.contains(magnitude(4, 5)));
+        assert!(rt; form.contains(Magnitude::new(0, 0)));
+        assert!(rt; form.contains(Magnitude::new(1, 0)));
+        assert!(rt; form.contains(Magnitude::new(7, 3)));
+        assert!(rt; !form.contains(Magnitude::new(8, 3)));
+        assert!(rt; form.contains(Magnitude::new(4, 1)));
+        assert!(rt; !form.contains(Magnitude::new(3, 1)));
+        assert!(rt; form.contains(Magnitude::new(6, 4)));
+        assert!(rt; !form.contains(Magnitude::new(7, 4)));
+        assert!(rt; !form.contains(Magnitude::new(4, 5)));
     }
 }

@@ -12,6 +12,18 @@ pub struct Magnitude {
     pub exponent: u32,
 }
 
+impl Magnitude {
+    pub fn new(significand: u64, exponent: u32) -> Magnitude
+        ensures significand { result.significand ≡ significand }
+        ensures exponent { result.exponent ≡ exponent }
+    {
+        Magnitude {
+            significand,
+            exponent,
+        }
+    }
+}
+
 /// The root of `n` rounded to `precision` bits, to nearest, ties to even. A precision of 0 is taken
 /// as 1.
 pub fn length(precision: u32, n: u64) -> Magnitude
@@ -35,10 +47,7 @@ fn length_at(precision: u32, n: u64) -> Magnitude
             exponent: exponent + 1,
         }
     } else {
-        Magnitude {
-            significand,
-            exponent,
-        }
+        Magnitude::new(significand, exponent)
     }
 }
 
@@ -90,40 +99,33 @@ fn round_half(twice: u64, exact: bool) -> u64
 mod tests {
     use super::*;
 
-    fn magnitude(significand: u64, exponent: u32) -> Magnitude {
-        Magnitude {
-            significand,
-            exponent,
-        }
-    }
-
     #[test]
     fn exact_roots(rt: HostRuntime) {
-        assert_eq!(rt; length(31, 0), magnitude(0, 0));
-        assert_eq!(rt; length(31, 25), magnitude(5, 0));
+        assert_eq!(rt; length(31, 0), Magnitude::new(0, 0));
+        assert_eq!(rt; length(31, 25), Magnitude::new(5, 0));
         assert_eq!(rt;
             length(53, 0xffff_fffe_0000_0001),
-            magnitude(0xffff_ffff, 0)
+            Magnitude::new(0xffff_ffff, 0)
         );
-        assert_eq!(rt; length(2, 64), magnitude(2, 2));
+        assert_eq!(rt; length(2, 64), Magnitude::new(2, 2));
     }
 
     #[test]
     fn ties_go_to_even(rt: HostRuntime) {
         // roots 5, 7 and 11 with two bits: 2.5 goes down, 3.5 carries up, and 2.75 is no tie
-        assert_eq!(rt; length(2, 25), magnitude(2, 1));
-        assert_eq!(rt; length(2, 49), magnitude(2, 2));
-        assert_eq!(rt; length(2, 121), magnitude(3, 2));
+        assert_eq!(rt; length(2, 25), Magnitude::new(2, 1));
+        assert_eq!(rt; length(2, 49), Magnitude::new(2, 2));
+        assert_eq!(rt; length(2, 121), Magnitude::new(3, 2));
         // one more in the radicand takes the root above the half
-        assert_eq!(rt; length(2, 26), magnitude(3, 1));
+        assert_eq!(rt; length(2, 26), Magnitude::new(3, 1));
     }
 
     #[test]
     fn halves_never_meet_at_the_least_exponent(rt: HostRuntime) {
         // the root of 2 lies below 1.5, that of 3 above
-        assert_eq!(rt; length(31, 2), magnitude(1, 0));
-        assert_eq!(rt; length(31, 3), magnitude(2, 0));
-        assert_eq!(rt; length(53, u64::MAX), magnitude(0x1_0000_0000, 0));
-        assert_eq!(rt; length(32, u64::MAX), magnitude(0x8000_0000, 1));
+        assert_eq!(rt; length(31, 2), Magnitude::new(1, 0));
+        assert_eq!(rt; length(31, 3), Magnitude::new(2, 0));
+        assert_eq!(rt; length(53, u64::MAX), Magnitude::new(0x1_0000_0000, 0));
+        assert_eq!(rt; length(32, u64::MAX), Magnitude::new(0x8000_0000, 1));
     }
 }

@@ -8,6 +8,8 @@ ghost use Rattle.std.specs.Float.{binary64};
 ghost use Rattle.floats.specs.Units.{units, Moderate};
 ghost use Rattle.floats.specs.ExactSum.{ExactSum, lost_of_b, lost};
 
+use std::ops::Neg;
+
 /// A number as an unevaluated sum of two floats.
 #[derive(Clone, Copy)]
 pub struct DoubleDouble {
@@ -36,12 +38,15 @@ impl DoubleDouble {
     {
         sum_and_loss(a, b)
     }
+}
 
-    /// The same number with the other sign.
-    pub fn negated(self) -> DoubleDouble
-        ensures high { result.hi ≡ Ieee.neg self.hi }
-        ensures low { result.lo ≡ Ieee.neg self.lo }
-    {
+/// The same number with the other sign.
+impl Neg for DoubleDouble {
+    type Output = DoubleDouble;
+
+    ghost neg_gives = { λ a r. (r.hi ≡ Ieee.neg a.hi) × (r.lo ≡ Ieee.neg a.lo) };
+
+    fn neg(self) -> DoubleDouble {
         DoubleDouble {
             hi: -self.hi,
             lo: -self.lo,
@@ -143,8 +148,8 @@ mod tests {
     #[test]
     fn other_sign(rt: HostRuntime) {
         let pair = DoubleDouble { hi: 1.0, lo: -TINY };
-        assert!(rt; is(pair.negated(), -1.0, TINY));
+        assert!(rt; is(-pair, -1.0, TINY));
         let whole = DoubleDouble { hi: 1.0, lo: 0.0 };
-        assert!(rt; is(whole.negated(), -1.0, -0.0));
+        assert!(rt; is(-whole, -1.0, -0.0));
     }
 }

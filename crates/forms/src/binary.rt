@@ -285,13 +285,6 @@ mod tests {
         }
     }
 
-    fn magnitude(significand: u64, exponent: u32) -> Magnitude {
-        Magnitude {
-            significand,
-            exponent,
-        }
-    }
-
     #[test]
     fn finite_edges(rt: HostRuntime) {
         assert_eq!(rt; Binary64::read(0), finite(false, 0, 0));
@@ -342,21 +335,21 @@ mod tests {
 
     #[test]
     fn written_values(rt: HostRuntime) {
-        assert_eq!(rt; Binary64::write(magnitude(0, 0)), Some(0));
+        assert_eq!(rt; Binary64::write(Magnitude::new(0, 0)), Some(0));
         assert_eq!(rt;
-            Binary64::write(magnitude(1 << 52, 0)),
+            Binary64::write(Magnitude::new(1 << 52, 0)),
             Some(0x0010_0000_0000_0000)
         );
         assert_eq!(rt;
-            Binary64::write(magnitude((1 << 53) - 1, 2045)),
+            Binary64::write(Magnitude::new((1 << 53) - 1, 2045)),
             Some(0x7fef_ffff_ffff_ffff)
         );
-        assert_eq!(rt; Binary64::write(magnitude(1 << 52, 2046)), None);
-        assert_eq!(rt; Binary64::write(magnitude(1, 1)), None);
+        assert_eq!(rt; Binary64::write(Magnitude::new(1 << 52, 2046)), None);
+        assert_eq!(rt; Binary64::write(Magnitude::new(1, 1)), None);
         assert_eq!(rt;
-            Binary32::write(magnitude(0x80_0000, 150)),
+            Binary32::write(Magnitude::new(0x80_0000, 150)),
             Some(0x4b80_0000)
         );
-        assert_eq!(rt; Binary32::write(magnitude(0x100_0000, 0)), None);
+        assert_eq!(rt; Binary32::write(Magnitude::new(0x100_0000, 0)), None);
     }
 }

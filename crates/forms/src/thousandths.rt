@@ -81,13 +81,6 @@ mod tests {
         }
     }
 
-    fn magnitude(significand: u64, exponent: u32) -> Magnitude {
-        Magnitude {
-            significand,
-            exponent,
-        }
-    }
-
     #[test]
     fn edges(rt: HostRuntime) {
         assert_eq!(rt; Thousandths::read(0), whole(false, 0));
@@ -104,10 +97,10 @@ mod tests {
         assert_eq!(rt; Thousandths::read(0x8000_0002), whole(true, 2_147_483_646));
         assert_eq!(rt; Thousandths::read(0xffff_ffff), whole(true, 1));
         assert_eq!(rt;
-            Thousandths::write(magnitude(2_147_483_646, 0)),
+            Thousandths::write(Magnitude::new(2_147_483_646, 0)),
             Some(0x7fff_fffe)
         );
-        assert_eq!(rt; Thousandths::write(magnitude(2_147_483_647, 0)), None);
-        assert_eq!(rt; Thousandths::write(magnitude(1, 1)), None);
+        assert_eq!(rt; Thousandths::write(Magnitude::new(2_147_483_647, 0)), None);
+        assert_eq!(rt; Thousandths::write(Magnitude::new(1, 1)), None);
     }
 }

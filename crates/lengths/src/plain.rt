@@ -52,10 +52,7 @@ pub fn plain_leg<F: NumberForm>(hypotenuse: &FiniteSide<F>, leg: Side) -> Option
     ensures { result ≡ (if nat_le (side_units hypotenuse.now.side) (side_units leg) then Some (zero_pattern F.NumberForm.encoding) else (if is_far (side_units hypotenuse.now.side) (side_units leg) then Some (side_pattern F.NumberForm.encoding hypotenuse.now.side) else None)) }
 {
     if !leg.is_shorter(hypotenuse.side) {
-        F::write(Magnitude {
-            significand: 0,
-            exponent: 0,
-        })
+        F::write(Magnitude::new(0, 0))
     } else if leg.is_far(hypotenuse.side) {
         hypotenuse.pattern()
     } else {

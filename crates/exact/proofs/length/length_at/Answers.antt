@@ -19,5 +19,6 @@ returns-else-precision-lt64 c =
       | else-precision-lt64-via-then-precision-lt64+else-significand-precision w ↦ inl (w.if-precision-lt64.true, w.if-significand-precision.false)
       | else-precision-lt64-via-else-precision-lt64 w ↦ inr w.if-precision-lt64.false
     ] in
-    kept_length p c.args.n c.div_ceil.result c.saturating_sub-exponent.result k c.ranges.n.fits ceil c.saturating_sub-exponent.ensures c.rounded-significand.ensures
-    c.rounded-significand.type_inv way
+    rw (c.new.ensures.significand, c.new.ensures.exponent)
+    (kept_length p c.args.n c.div_ceil.result c.saturating_sub-exponent.result k c.ranges.n.fits ceil c.saturating_sub-exponent.ensures c.rounded-significand.ensures
+    c.rounded-significand.type_inv way)
