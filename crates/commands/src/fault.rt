@@ -1,8 +1,9 @@
 //! Why a line is refused.
 ghost use Rattle.std.specs.Prelude.{◌≡◌};
-ghost use Rattle.commands.specs.declared.fault.TextFault.TheVariants.{Call as CallFault};
+ghost use Rattle.commands.specs.declared.fault.TextFault.TheVariants.{Digit as DigitFault, Call as CallFault};
 ghost use Rattle.commands.specs.Fault.{fault_layer, fault_number, fault_place, layer_word};
 
+use sheet::hex::NotADigit;
 use solver::refusal::CallRefusal;
 
 /// Where a refusal comes from.
@@ -37,6 +38,14 @@ pub enum TextFault {
     Digit(usize),
     /// the solver refuses the call that the line asks for
     Call(CallRefusal),
+}
+
+impl From<NotADigit> for TextFault {
+    ghost from_gives = { λ other r. r ≡ DigitFault other.place };
+
+    fn from(other: NotADigit) -> TextFault {
+        TextFault::Digit(other.place)
+    }
 }
 
 impl From<CallRefusal> for TextFault {

@@ -7,9 +7,9 @@ ghost use Rattle.commands.specs.Spelt.{EveryCommandHasALine};
 
 use crate::command::{Command, FormName, Operation};
 use crate::fault::TextFault;
-use crate::hex::number;
 use crate::pattern::HexPattern;
 use lengths::call::Call;
+use sheet::hex::number;
 use solver::log::Request;
 
 /// The longest line, in bytes.

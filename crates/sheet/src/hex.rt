@@ -21,8 +21,9 @@ pub fn digit_value(byte: u8) -> Option<u8>
 }
 
 /// The number that at most sixteen digits spell, or the place of the first byte that is no digit.
-/// The field begins at `place` of its line. Only the crate's own fields come here.
-pub(crate) fn number(place: usize, field: &[u8]) -> Result<u64, NotADigit>
+/// The field begins at `place` of its line. An inner function, public for `commands`: only fields of
+/// lines that are laid out come here.
+pub fn number(place: usize, field: &[u8]) -> Result<u64, NotADigit>
     requires few { length field.now ≤ 16 }
     requires within { place ≤ 80 }
     ensures value { result ≡ hex_number place field.now }
