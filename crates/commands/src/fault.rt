@@ -1,8 +1,11 @@
 //! Why a line is refused.
 ghost use Rattle.std.specs.Prelude.{◌≡◌};
 ghost use Rattle.commands.specs.declared.fault.TextFault.TheVariants.{Digit as DigitFault, Call as CallFault};
+ghost use Rattle.commands.specs.Buffer.{kept};
 ghost use Rattle.commands.specs.Fault.{fault_layer, fault_number, fault_place, layer_word};
+ghost use Rattle.commands.specs.Reply.{fault_line};
 
+use crate::line_buffer::LineBuffer;
 use sheet::hex::NotADigit;
 use solver::refusal::CallRefusal;
 
@@ -95,5 +98,20 @@ impl TextFault {
             TextFault::Digit(place) => place as u64,
             TextFault::Call(refusal) => refusal.numbered().value.unwrap_or(0),
         }
+    }
+
+    /// The line that tells the refusal, with the byte 10 that ends it.
+    pub fn line(self) -> LineBuffer
+        ensures { kept result ≡ fault_line self }
+    {
+        let mut line = LineBuffer::new();
+        line.push_bytes(b"! ");
+        line.push_decimal(self.number() as u64);
+        line.push(b' ');
+        line.push_bytes(self.layer().word());
+        line.push(b' ');
+        line.push_decimal(self.place());
+        line.push(b'\n');
+        line
     }
 }

@@ -11,8 +11,24 @@ pub enum PatternBits {
     Bits32(u32),
 }
 
+impl From<u64> for PatternBits {
+    ghost from_gives = { λ pattern bits. bits ≡ Bits64 pattern };
+
+    fn from(pattern: u64) -> PatternBits {
+        PatternBits::Bits64(pattern)
+    }
+}
+
+impl From<u32> for PatternBits {
+    ghost from_gives = { λ pattern bits. bits ≡ Bits32 pattern };
+
+    fn from(pattern: u32) -> PatternBits {
+        PatternBits::Bits32(pattern)
+    }
+}
+
 /// A pattern type that is spelt at full width, in a number of hexadecimal digits of its own.
-pub trait HexPattern: Copy {
+pub trait HexPattern: Copy + Into<PatternBits> {
     ghost width: { ℕ };
 
     ghost pattern: { ℕ → Self };
@@ -28,11 +44,9 @@ pub trait HexPattern: Copy {
         requires { number < 16 ^ width }
         ensures { result ≡ pattern number };
 
-    /// The pattern with its width.
-    fn bits(self) -> PatternBits
-        ensures { result ≡ written self };
-
     ghost narrow: { width ≤ 16 };
+
+    ghost into_bits: { (p : Self) (bits : PatternBits) → Self.converts p bits → bits ≡ written p };
 }
 
 impl HexPattern for u64 {
@@ -44,16 +58,14 @@ impl HexPattern for u64 {
 
     ghost narrow = { Prim.search rules };
 
+    ghost into_bits = { λ _ _ is. is };
+
     fn digits() -> usize {
         u64::BITS as usize / 4
     }
 
     fn from_number(number: u64) -> u64 {
         number
-    }
-
-    fn bits(self) -> PatternBits {
-        PatternBits::Bits64(self)
     }
 }
 
@@ -66,15 +78,13 @@ impl HexPattern for u32 {
 
     ghost narrow = { Prim.search rules };
 
+    ghost into_bits = { λ _ _ is. is };
+
     fn digits() -> usize {
         u32::BITS as usize / 4
     }
 
     fn from_number(number: u64) -> u32 {
         number as u32
-    }
-
-    fn bits(self) -> PatternBits {
-        PatternBits::Bits32(self)
     }
 }
