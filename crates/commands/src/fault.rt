@@ -17,7 +17,8 @@ pub enum Layer {
 }
 
 impl Layer {
-    /// The word that names the layer in an answer.
+    /// The word that names the layer in an answer. No `Display`: a line buffer takes bytes, which a
+    /// `write!` need not give.
     pub(crate) fn word(self) -> &'static [u8]
         ensures { result.now ≡ layer_word self }
     {

@@ -12,10 +12,7 @@ use lengths::call::Measured;
 #[derive(Clone, Copy)]
 pub enum Reply {
     /// the pattern of a length, and the steps that it took
-    Length {
-        pattern: PatternBits,
-        count: u64,
-    },
+    Length { pattern: PatternBits, count: u64 },
     /// a new scan has begun
     NewScan,
 }
