@@ -72,9 +72,9 @@ impl Lettered<'_> {
 
     // The request of the operation, in any pattern type: layout first, then digits.
     fn request<P: HexPattern>(&self) -> Result<Request<P>, TextFault>
-        ensures { result ≡ request_of P.HexPattern.pattern P.HexPattern.width self.now.operation self.now.space self.now.rest.now }
+        ensures { result ≡ request_of P.HexPattern.pattern P.HexPattern.DIGITS self.now.operation self.now.space self.now.rest.now }
     {
-        if self.space != b' ' || !is_laid_out(P::digits(), self.operation.fields(), self.rest) {
+        if self.space != b' ' || !is_laid_out(P::DIGITS, self.operation.fields(), self.rest) {
             return Err(TextFault::Layout(3 + self.rest.len()));
         }
         self.fields()
@@ -82,8 +82,8 @@ impl Lettered<'_> {
 
     // The request of the operation with its fields, which are laid out.
     fn fields<P: HexPattern>(&self) -> Result<Request<P>, TextFault>
-        requires { length self.now.rest.now ≡ field_count self.now.operation * (P.HexPattern.width + 1) }
-        ensures { result ≡ asked_of self.now.operation (field_of P.HexPattern.pattern P.HexPattern.width self.now.rest.now) }
+        requires { length self.now.rest.now ≡ field_count self.now.operation * (P.HexPattern.DIGITS + 1) }
+        ensures { result ≡ asked_of self.now.operation (field_of P.HexPattern.pattern P.HexPattern.DIGITS self.now.rest.now) }
     {
         let call = match self.operation {
             Operation::NewScan => return Ok(Request::NewScan),
@@ -120,11 +120,11 @@ fn is_laid_out(digits: usize, count: usize, rest: &[u8]) -> bool
 // The pattern of field `i`, behind its space.
 fn field<P: HexPattern>(rest: &[u8], i: usize) -> Result<P, TextFault>
     requires index { i < 3 }
-    requires within { (i + 1) * (P.HexPattern.width + 1) ≤ length rest.now }
-    ensures { result ≡ field_of P.HexPattern.pattern P.HexPattern.width rest.now i }
+    requires within { (i + 1) * (P.HexPattern.DIGITS + 1) ≤ length rest.now }
+    ensures { result ≡ field_of P.HexPattern.pattern P.HexPattern.DIGITS rest.now i }
 {
-    let start = 1 + i * (P::digits() + 1);
-    let number = number(3 + start, &rest[start..start + P::digits()])?;
+    let start = 1 + i * (P::DIGITS + 1);
+    let number = number(3 + start, &rest[start..start + P::DIGITS])?;
     Ok(P::from_number(number))
 }
 

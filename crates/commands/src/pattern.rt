@@ -29,28 +29,29 @@ impl From<u32> for PatternBits {
 
 /// A pattern type that is spelt at full width, in a number of hexadecimal digits of its own.
 pub trait HexPattern: Copy + Into<PatternBits> {
-    ghost width: { ℕ };
+    /// How many digits spell a pattern.
+    const DIGITS: usize;
+
+    ghost DIGITS: { ℕ };
 
     ghost pattern: { ℕ → Self };
 
     ghost written: { Self → PatternBits };
 
-    /// How many digits spell a pattern.
-    fn digits() -> usize
-        ensures { result ≡ width };
-
     /// The pattern that digits spell, from their number.
     fn from_number(number: u64) -> Self
-        requires { number < 16 ^ width }
+        requires { number < 16 ^ DIGITS }
         ensures { result ≡ pattern number };
 
-    ghost narrow: { width ≤ 16 };
+    ghost narrow: { DIGITS ≤ 16 };
 
     ghost into_bits: { (p : Self) (bits : PatternBits) → Self.converts p bits → bits ≡ written p };
 }
 
 impl HexPattern for u64 {
-    ghost width = { 16 };
+    const DIGITS: usize = u64::BITS as usize / 4;
+
+    ghost DIGITS = { 16 };
 
     ghost pattern = { λ number. number };
 
@@ -60,17 +61,15 @@ impl HexPattern for u64 {
 
     ghost into_bits = { λ _ _ is. is };
 
-    fn digits() -> usize {
-        u64::BITS as usize / 4
-    }
-
     fn from_number(number: u64) -> u64 {
         number
     }
 }
 
 impl HexPattern for u32 {
-    ghost width = { 8 };
+    const DIGITS: usize = u32::BITS as usize / 4;
+
+    ghost DIGITS = { 8 };
 
     ghost pattern = { λ number. number };
 
@@ -79,10 +78,6 @@ impl HexPattern for u32 {
     ghost narrow = { Prim.search rules };
 
     ghost into_bits = { λ _ _ is. is };
-
-    fn digits() -> usize {
-        u32::BITS as usize / 4
-    }
 
     fn from_number(number: u64) -> u32 {
         number as u32
