@@ -3,12 +3,13 @@ ghost use Rattle.std.specs.Prelude.{◌≡◌, ◌^◌, ◌<◌, ◌≤◌, leng
 ghost use Rattle.sheet.specs.Hex.{hex_digit, hex_number};
 
 /// A byte of a line that should be a hexadecimal digit, and is none.
-#[derive(Clone, Copy)]
+#[derive(Clone, Copy, PartialEq, Eq, Debug)]
 pub struct NotADigit {
     pub place: usize,
 }
 
-/// The value of a hexadecimal digit, in either case.
+/// The value of a hexadecimal digit, in either case. `char::to_digit` is no plainer: it goes by way of a
+/// `char` and a `u32`.
 pub fn digit_value(byte: u8) -> Option<u8>
     ensures { result ≡ hex_digit byte }
 {
