@@ -77,7 +77,3 @@ module _ {S F : Type 0} {steps : S → Option (Bor (List ℕ)) → S → Type 0}
       let other : get_or rest (bad.0 * (digits + 1)) 0 ≢ 32 = λ space. no found.0 found.1 found.2 (sym found.4 ∙ space) in
       sym (ap (λ (b : Bool). eqb (length rest) (count * (digits + 1)) && b) (missing_space digits bad.0 count rest (lt-of-mul bad.0 count (digits + 1) (omega (arith, found.3, long))) other)
       ∙ and_false (eqb (length rest) (count * (digits + 1))))
-
--- the places of fields are small
-pub field_place_le : (digits i : ℕ) → digits ≤ 16 → i ≤ 3 → i * (digits + 1) ≤ 51
-field_place_le digits i d h = let k : digits + 1 ≤ 17 = omega arith in mul-le-mul h k

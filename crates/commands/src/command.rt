@@ -5,7 +5,7 @@ ghost use Rattle.commands.specs.Letters.{operation_of, form_of, field_count};
 use solver::log::Request;
 
 /// What the first letter of a line names.
-#[derive(Clone, Copy)]
+#[derive(Clone, Copy, PartialEq, Eq, Debug)]
 pub enum Operation {
     Hypot,
     Cathetus,
@@ -40,7 +40,7 @@ impl Operation {
 }
 
 /// What the second letter of a line names: the number form of its patterns.
-#[derive(Clone, Copy)]
+#[derive(Clone, Copy, PartialEq, Eq, Debug)]
 pub enum FormName {
     Binary64,
     Binary32,

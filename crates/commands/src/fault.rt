@@ -10,7 +10,7 @@ use sheet::hex::NotADigit;
 use solver::refusal::CallRefusal;
 
 /// Where a refusal comes from.
-#[derive(Clone, Copy)]
+#[derive(Clone, Copy, PartialEq, Eq, Debug)]
 pub enum Layer {
     Text,
     Solver,

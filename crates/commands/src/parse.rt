@@ -117,7 +117,8 @@ fn is_laid_out(digits: usize, count: usize, rest: &[u8]) -> bool
             .all(|field| matches!(field, [b' ', ..]))
 }
 
-// The pattern of field `i`, behind its space.
+// The pattern of field `i`, behind its space. By its index: cut off the front, a field would hand on
+// the rest and its place beside the pattern, which is no plainer.
 fn field<P: HexPattern>(rest: &[u8], i: usize) -> Result<P, TextFault>
     requires index { i < 3 }
     requires within { (i + 1) * (P.HexPattern.DIGITS + 1) ≤ length rest.now }

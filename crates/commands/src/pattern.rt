@@ -5,7 +5,7 @@ ghost use Rattle.commands.specs.declared.pattern.PatternBits.TheVariants.{Bits64
 ghost use Rattle.std.proofs.Common.{rules};
 
 /// A pattern with its width.
-#[derive(Clone, Copy)]
+#[derive(Clone, Copy, PartialEq, Eq, Debug)]
 pub enum PatternBits {
     Bits64(u64),
     Bits32(u32),

@@ -9,7 +9,7 @@ use crate::pattern::{HexPattern, PatternBits};
 use lengths::call::Measured;
 
 /// What a line that is not refused is answered with.
-#[derive(Clone, Copy)]
+#[derive(Clone, Copy, PartialEq, Eq, Debug)]
 pub enum Reply {
     /// the pattern of a length, and the steps that it took
     Length { pattern: PatternBits, count: u64 },
