@@ -72,7 +72,8 @@ impl Lettered<'_> {
 
     // The request of the operation, in any pattern type: layout first, then digits.
     fn request<P: HexPattern>(&self) -> Result<Request<P>, TextFault>
-        ensures { result ≡ request_of P.HexPattern.pattern P.HexPattern.DIGITS self.now.operation self.now.space self.now.rest.now }
+        ensures { result ≡ request_of P.HexPattern.pattern P.HexPattern.DIGITS self.now.operation
+            self.now.space self.now.rest.now }
     {
         if self.space != b' ' || !is_laid_out(P::DIGITS, self.operation.fields(), self.rest) {
             return Err(TextFault::Layout(3 + self.rest.len()));
@@ -83,7 +84,8 @@ impl Lettered<'_> {
     // The request of the operation with its fields, which are laid out.
     fn fields<P: HexPattern>(&self) -> Result<Request<P>, TextFault>
         requires { length self.now.rest.now ≡ field_count self.now.operation * (P.HexPattern.DIGITS + 1) }
-        ensures { result ≡ asked_of self.now.operation (field_of P.HexPattern.pattern P.HexPattern.DIGITS self.now.rest.now) }
+        ensures { result ≡ asked_of self.now.operation
+            (field_of P.HexPattern.pattern P.HexPattern.DIGITS self.now.rest.now) }
     {
         let call = match self.operation {
             Operation::NewScan => return Ok(Request::NewScan),
