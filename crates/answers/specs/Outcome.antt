@@ -16,7 +16,7 @@ use Rattle.commands.specs.declared.pattern.PatternBits.TheVariants.{Bits64, Bits
 use Rattle.commands.specs.declared.reply.Reply.{Reply}
 use Rattle.commands.specs.declared.reply.Reply.TheVariants.{NewScan}
 use Rattle.commands.specs.Line.{command_of}
-use Rattle.commands.specs.Reply.{reply_line, length_reply, fault_reply}
+use Rattle.commands.specs.Reply.{reply_line, length_reply, fault_line}
 use Rattle.answers.specs.declared.solvers.Solvers.{Solvers}
 
 -- what the digit source means
@@ -53,14 +53,14 @@ module _ (solvers : Solvers) where
   after_parsed (Ok command) = after_command command
   after_parsed (Err fault) = solvers
 
--- the answer that tells an outcome
-abbrev pub told_outcome : Result Reply TextFault → Reply
-told_outcome (Ok reply) = reply
-told_outcome (Err fault) = fault_reply fault
+-- the line that tells an outcome, its byte 10 included
+abbrev pub told_outcome : Result Reply TextFault → List ℕ
+told_outcome (Ok reply) = reply_line reply
+told_outcome (Err fault) = fault_line fault
 
 -- the bytes that answer a line, its byte 10 included
 abbrev pub line_answer : Solvers → List ℕ → List ℕ
-line_answer solvers line = reply_line (told_outcome (line_outcome solvers (command_of line)))
+line_answer solvers line = told_outcome (line_outcome solvers (command_of line))
 
 -- the solvers after a line
 abbrev pub after_line : Solvers → List ℕ → Solvers

@@ -47,7 +47,7 @@ impl Solvers {
     {
         match self.line_outcome(line) {
             Ok(reply) => reply.line(),
-            Err(fault) => Reply::fault(fault).line(),
+            Err(fault) => fault.line(),
         }
     }
 

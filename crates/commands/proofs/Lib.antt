@@ -1,4 +1,3 @@
-pub mod Numbers
 pub mod Separators
 pub mod Cut
 pub mod Spelling

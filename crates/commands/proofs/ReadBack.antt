@@ -1,8 +1,8 @@
 -- Written digits are digits, and one more at the end makes sixteen times the number before it and its value.
 use Rattle.std.proofs.Common.{◌≡◌, ℕ, zero, suc, ◌+◌, ◌*◌, ◌/◌, ◌%◌, ◌^◌, ◌<◌, Bool, cond, List, [], ◌∷◌, ◌++◌, length, is_some, Some, None, Ok, Err, unwrap_or, sym, refl, ap, ◌∙◌, arith, length-append, pow-add, eq-eqb}
 use Rattle.std.proofs.lemmas.Bool.Decides.{nat_tests}
-use Rattle.commands.specs.declared.fault.TextFault.TheVariants.{Digit}
-use Rattle.commands.specs.Hex.{hex_digit, leading_digits, spelt_behind, hex_number, digit_byte, hex_digits}
+use Rattle.sheet.specs.Hex.{hex_digit, leading_digits, spelt_behind, hex_number}
+use Rattle.commands.specs.Hex.{digit_byte, hex_digits}
 
 digit_reads : (value : ℕ) → value < 16 → hex_digit (digit_byte value) ≡ Some value
 digit_reads value small = grind (arith, nat_tests)
@@ -46,5 +46,5 @@ spells (suc before) number small =
 pub written_reads_back : (place digits number : ℕ) → number < 16 ^ digits → hex_number place (hex_digits digits number) ≡ Ok number
 written_reads_back place digits number small =
     let field = hex_digits digits number in
-    ap (λ (b : Bool). cond b (Ok (spelt_behind 0 field)) (Err (Digit (place + leading_digits field)))) (eq-eqb (leading_digits field) (length field) (all_lead digits number))
+    ap (λ (b : Bool). cond b (Ok (spelt_behind 0 field)) (Err (record { place = place + leading_digits field }))) (eq-eqb (leading_digits field) (length field) (all_lead digits number))
     ∙ ap Ok (spells digits number small)

@@ -3,12 +3,12 @@ use Rattle.std.proofs.Common.{◌≡◌, ℕ, ◌^◌, ◌<◌, ◌≤◌, List,
 use Rattle.std.proofs.lemmas.Fmt.{length-decimal-le}
 use Rattle.std.proofs.lemmas.List.{take_all}
 use Rattle.commands.specs.Fault.{layer_word}
-use Rattle.commands.specs.Reply.{pattern_digits, reply_line}
+use Rattle.commands.specs.Reply.{pattern_digits, reply_line, refusal_line}
 use Rattle.commands.specs.declared.pattern.PatternBits.{PatternBits}
 use Rattle.commands.specs.declared.pattern.PatternBits.TheVariants.{Bits64, Bits32}
 use Rattle.commands.specs.declared.fault.Layer.{Layer}
 use Rattle.commands.specs.declared.fault.Layer.TheVariants.{Text, Solver}
-use Rattle.commands.specs.declared.reply.Reply.TheVariants.{Length, Refused}
+use Rattle.commands.specs.declared.reply.Reply.TheVariants.{Length}
 use Rattle.commands.proofs.Cut.{pushed_onto}
 use Rattle.commands.proofs.Spelling.{length_hex}
 
@@ -26,10 +26,10 @@ decimal_short n fits = length-decimal-le 20 n (omega arith) (omega arith) fits
 length_short : (pattern : PatternBits) (count : ℕ) → count < 2 ^ 64 → length (reply_line (Length pattern count)) ≤ 81
 length_short pattern count fits = simp length-append (omega (arith, pattern_short pattern, decimal_short count fits))
 
-pub length_line : (pattern : PatternBits) (count : ℕ) {k₀ k₁ k₂ k₃ k₄ k₅ : List ℕ} → count < 2 ^ 64
+pub told_length : (pattern : PatternBits) (count : ℕ) {k₀ k₁ k₂ k₃ k₄ k₅ : List ℕ} → count < 2 ^ 64
     → k₀ ≡ [] → k₁ ≡ take 81 (k₀ ++ codes "= ") → k₂ ≡ take 81 (k₁ ++ pattern_digits pattern) → k₃ ≡ take 81 (k₂ ++ codes " ") → k₄ ≡ take 81 (k₃ ++ decimal count) → k₅ ≡ take 81 (k₄ ++ 10 ∷ [])
     → k₅ ≡ reply_line (Length pattern count)
-length_line pattern count fits h₀ h₁ h₂ h₃ h₄ h₅ =
+told_length pattern count fits h₀ h₁ h₂ h₃ h₄ h₅ =
     let t₁ = codes "= " in
     let t₂ = t₁ ++ pattern_digits pattern in
     let t₃ = t₂ ++ codes " " in
@@ -39,14 +39,14 @@ length_line pattern count fits h₀ h₁ h₂ h₃ h₄ h₅ =
     let e₄ = pushed_onto t₃ (decimal count) e₃ h₄ in
     pushed_onto (t₃ ++ decimal count) (10 ∷ []) e₄ h₅ ∙ take_all 81 (reply_line (Length pattern count)) (length_short pattern count fits)
 
-refused_short : (number : ℕ) (layer : Layer) (place : ℕ) → number < 2 ^ 32 → place < 2 ^ 64 → length (reply_line (Refused number layer place)) ≤ 81
-refused_short number layer place small fits = simp length-append (omega (arith, decimal_short number (omega arith), word_short layer, decimal_short place fits))
+refusal_short : (number : ℕ) (layer : Layer) (place : ℕ) → number < 2 ^ 32 → place < 2 ^ 64 → length (refusal_line number layer place) ≤ 81
+refusal_short number layer place small fits = simp length-append (omega (arith, decimal_short number (omega arith), word_short layer, decimal_short place fits))
 
-pub refused_line : (number : ℕ) (layer : Layer) (place : ℕ) {k₀ k₁ k₂ k₃ k₄ k₅ k₆ k₇ : List ℕ} → number < 2 ^ 32 → place < 2 ^ 64
+pub told_refusal : (number : ℕ) (layer : Layer) (place : ℕ) {k₀ k₁ k₂ k₃ k₄ k₅ k₆ k₇ : List ℕ} → number < 2 ^ 32 → place < 2 ^ 64
     → k₀ ≡ [] → k₁ ≡ take 81 (k₀ ++ codes "! ") → k₂ ≡ take 81 (k₁ ++ decimal number) → k₃ ≡ take 81 (k₂ ++ codes " ") → k₄ ≡ take 81 (k₃ ++ layer_word layer)
     → k₅ ≡ take 81 (k₄ ++ codes " ") → k₆ ≡ take 81 (k₅ ++ decimal place) → k₇ ≡ take 81 (k₆ ++ 10 ∷ [])
-    → k₇ ≡ reply_line (Refused number layer place)
-refused_line number layer place small fits h₀ h₁ h₂ h₃ h₄ h₅ h₆ h₇ =
+    → k₇ ≡ refusal_line number layer place
+told_refusal number layer place small fits h₀ h₁ h₂ h₃ h₄ h₅ h₆ h₇ =
     let t₁ = codes "! " in
     let t₂ = t₁ ++ decimal number in
     let t₃ = t₂ ++ codes " " in
@@ -58,4 +58,4 @@ refused_line number layer place small fits h₀ h₁ h₂ h₃ h₄ h₅ h₆ h�
     let e₄ = pushed_onto t₃ (layer_word layer) e₃ h₄ in
     let e₅ = pushed_onto t₄ (codes " ") e₄ h₅ in
     let e₆ = pushed_onto t₅ (decimal place) e₅ h₆ in
-    pushed_onto (t₅ ++ decimal place) (10 ∷ []) e₆ h₇ ∙ take_all 81 (reply_line (Refused number layer place)) (refused_short number layer place small fits)
+    pushed_onto (t₅ ++ decimal place) (10 ∷ []) e₆ h₇ ∙ take_all 81 (refusal_line number layer place) (refusal_short number layer place small fits)

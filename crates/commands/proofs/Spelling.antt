@@ -1,20 +1,8 @@
--- Digits are pushed the most significant first: those of the quotient, then that of the remainder.
-use Rattle.std.proofs.Common.{◌≡◌, ℕ, zero, suc, ◌+◌, ◌-◌, ◌/◌, ◌%◌, ◌^◌, ◌<◌, ◌≤◌, List, [], ◌∷◌, ◌++◌, length, take, decimal, sym, refl, ap, ◌∙◌, add-one, arith}
-use Rattle.std.proofs.lemmas.Fmt.{decimal_digit, decimal_step}
+-- Hexadecimal digits are pushed the most significant first: those of the quotient, then that of the remainder.
+use Rattle.std.proofs.Common.{◌≡◌, ℕ, zero, suc, ◌+◌, ◌-◌, ◌/◌, ◌%◌, ◌<◌, ◌≤◌, List, [], ◌∷◌, ◌++◌, length, take, sym, refl, ap, ◌∙◌, add-one, arith}
 use Rattle.std.proofs.lemmas.List.{append-nil, length_push}
 use Rattle.commands.specs.Hex.{digit_byte, hex_digits}
 use Rattle.commands.proofs.Cut.{pushed_more}
-
-module _ (xs : List ℕ) (n : ℕ) {kept after : List ℕ} (now : after ≡ take 81 (kept ++ (48 + n % 10) ∷ [])) where
-  -- the last of several decimal digits
-  pub decimal_more : 10 ≤ n → n < 2 ^ 64 → kept ≡ take 81 (xs ++ decimal (n / 10)) → after ≡ take 81 (xs ++ decimal n)
-  decimal_more many fits was = pushed_more xs (decimal (n / 10)) ((48 + n % 10) ∷ []) was now ∙ ap (λ ds. take 81 (xs ++ ds)) (sym (decimal_step n many fits))
-
-  -- the only one
-  pub decimal_one : n < 10 → kept ≡ xs → after ≡ take 81 (xs ++ decimal n)
-  decimal_one one was =
-      let same : n % 10 ≡ n = omega arith in
-      now ∙ ap (λ k. take 81 (k ++ (48 + n % 10) ∷ [])) was ∙ ap (λ ds. take 81 (xs ++ ds)) (ap (λ d. (48 + d) ∷ []) same ∙ sym (decimal_digit n one))
 
 -- one more hexadecimal digit
 hex_step : (digits n : ℕ) → 0 < digits → hex_digits digits n ≡ hex_digits (digits - 1) (n / 16) ++ digit_byte (n % 16) ∷ []

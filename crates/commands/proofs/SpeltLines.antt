@@ -3,7 +3,8 @@ use Rattle.std.proofs.Common.{◌≡◌, ℕ, ◌^◌, ◌<◌, Ok, Result, refl
 use Rattle.std.specs.Result.{result_map_both}
 use Rattle.lengths.specs.declared.call.Call.TheVariants.{Hypot, Cathetus, ThreeSides}
 use Rattle.commands.specs.Fields.{spaced, as_pattern, both, three}
-use Rattle.commands.specs.Hex.{hex_number, hex_digits}
+use Rattle.sheet.specs.Hex.{hex_number}
+use Rattle.commands.specs.Hex.{hex_digits}
 use Rattle.commands.specs.Line.{command_of}
 use Rattle.commands.specs.Spelt.{line_of, InWidth}
 use Rattle.commands.specs.declared.command.Command.{Command}

@@ -3,13 +3,13 @@ use Rattle.std.specs.Prelude.{◌≡◌, [], ◌∷◌, ◌++◌, Ok, Err, codes
 use Rattle.lengths.specs.declared.call.Call.TheVariants.{Hypot, Cathetus, ThreeSides}
 use Rattle.commands.specs.Input.{lines_of}
 use Rattle.commands.specs.Line.{command_of}
-use Rattle.commands.specs.Reply.{reply_line, fault_reply}
+use Rattle.commands.specs.Reply.{reply_line, refusal_line, fault_line}
 use Rattle.commands.specs.declared.command.Command.TheVariants.{Binary64, Binary32, Thousandths}
 use Rattle.solver.specs.declared.log.Request.TheVariants.{Length, NewScan}
 use Rattle.commands.specs.declared.fault.Layer.TheVariants.{Solver}
 use Rattle.commands.specs.declared.fault.TextFault.TheVariants.{Letter, Layout, Digit}
 use Rattle.commands.specs.declared.pattern.PatternBits.TheVariants.{Bits64, Bits32}
-use Rattle.commands.specs.declared.reply.Reply.TheVariants.{Length as LengthReply, NewScan as NewScanReply, Refused}
+use Rattle.commands.specs.declared.reply.Reply.TheVariants.{Length as LengthReply, NewScan as NewScanReply}
 
 -- what lines ask for
 pub record WorkedLines : Type 0 where
@@ -33,8 +33,8 @@ pub record WorkedAnswers : Type 0 where
   pub binary64 : reply_line (LengthReply (Bits64 0x4014_0000_0000_0000) 0) ≡ codes "= 4014000000000000 0" ++ 10 ∷ []
   pub thousandths : reply_line (LengthReply (Bits32 5000) 12) ≡ codes "= 00001388 12" ++ 10 ∷ []
   pub new_scan : reply_line NewScanReply ≡ codes "= new" ++ 10 ∷ []
-  pub text : reply_line (fault_reply (Letter 0)) ≡ codes "! 8 text 0" ++ 10 ∷ []
-  pub solver : reply_line (Refused 4 Solver 3) ≡ codes "! 4 solver 3" ++ 10 ∷ []
+  pub text : fault_line (Letter 0) ≡ codes "! 8 text 0" ++ 10 ∷ []
+  pub solver : refusal_line 4 Solver 3 ≡ codes "! 4 solver 3" ++ 10 ∷ []
 
 -- the lines of inputs
 pub record WorkedInputs : Type 0 where

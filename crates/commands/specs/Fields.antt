@@ -1,14 +1,15 @@
 -- The fields of a line: what stands behind its two letters, each field after one space.
 use Rattle.std.specs.Prelude.{ℕ, zero, suc, ◌+◌, ◌*◌, Bool, true, cond, ◌&&◌, List, length, take, drop, Ok, Err, Result, ◌==◌, slice_index}
 use Rattle.lengths.specs.declared.call.Call.TheVariants.{Hypot as HypotCall, Cathetus as CathetusCall, ThreeSides as ThreeSidesCall}
-use Rattle.commands.specs.Hex.{hex_number}
+use Rattle.sheet.specs.Hex.{hex_number}
+use Rattle.sheet.specs.declared.hex.NotADigit.{NotADigit}
 use Rattle.commands.specs.Letters.{field_count}
 use Rattle.commands.specs.declared.command.Operation.{Operation}
 use Rattle.commands.specs.declared.command.Operation.TheVariants.{Hypot, Cathetus, ThreeSides, NewScan}
 use Rattle.solver.specs.declared.log.Request.{Request}
 use Rattle.solver.specs.declared.log.Request.TheVariants.{Length, NewScan as NewScanRequest}
 use Rattle.commands.specs.declared.fault.TextFault.{TextFault}
-use Rattle.commands.specs.declared.fault.TextFault.TheVariants.{Layout}
+use Rattle.commands.specs.declared.fault.TextFault.TheVariants.{Layout, Digit}
 
 -- a space stands before each of so many fields of so many digits
 unfoldable pub spaced : ℕ → ℕ → List ℕ → Bool
@@ -20,9 +21,9 @@ abbrev pub laid_out : ℕ → ℕ → List ℕ → Bool
 laid_out digits count rest = length rest == count * (digits + 1) && spaced digits count rest
 
 -- what a field means, given what its number means as a pattern
-abbrev pub as_pattern : {P : Type 0} → (ℕ → P) → Result ℕ TextFault → Result P TextFault
+abbrev pub as_pattern : {P : Type 0} → (ℕ → P) → Result ℕ NotADigit → Result P TextFault
 as_pattern pattern (Ok number) = Ok (pattern number)
-as_pattern pattern (Err fault) = Err fault
+as_pattern pattern (Err other) = Err (Digit other.place)
 
 -- the pattern that field i spells, counted from 0; places count from the line's start
 abbrev pub field_of : {P : Type 0} → (ℕ → P) → ℕ → List ℕ → ℕ → Result P TextFault

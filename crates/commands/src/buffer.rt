@@ -7,6 +7,7 @@ ghost use Rattle.commands.specs.Reply.{pattern_digits};
 use crate::line_buffer::{CAPACITY, LineBuffer};
 use crate::pattern::PatternBits;
 
+// No `fmt::Write`: by its contract a `write!` may fail, and then no clause names the bytes of the line.
 impl LineBuffer {
     /// A line with no bytes yet.
     pub(crate) fn new() -> LineBuffer
@@ -48,10 +49,8 @@ impl LineBuffer {
     pub(crate) fn push_decimal(&mut self, number: u64)
         ensures { kept self.new ≡ take 81 (kept self.old ++ decimal number) }
     {
-        if number >= 10 {
-            self.push_decimal(number / 10);
-        }
-        self.push(b'0' + (number % 10) as u8);
+        let mut digits = itoa::Buffer::new();
+        self.push_bytes(digits.format(number).as_bytes());
     }
 
     /// Adds the last so many hexadecimal digits of a number, in small letters.
@@ -75,7 +74,7 @@ impl LineBuffer {
     }
 }
 
-// The small hexadecimal digit of a value.
+// The small hexadecimal digit of a value. `char::from_digit` is no plainer: it gives an `Option` of a `char`.
 fn digit_byte(value: u8) -> u8
     requires { value ≤ 15 }
     ensures { result ≡ digit_byte value }

@@ -5,7 +5,7 @@ ghost use Rattle.commands.specs.Letters.{operation_of, form_of, field_count};
 use solver::log::Request;
 
 /// What the first letter of a line names.
-#[derive(Clone, Copy)]
+#[derive(Clone, Copy, PartialEq, Eq, Debug)]
 pub enum Operation {
     Hypot,
     Cathetus,
@@ -14,7 +14,7 @@ pub enum Operation {
 }
 
 impl Operation {
-    /// The operation that a letter names.
+    /// The operation that a letter names. No `TryFrom<u8>`: its error would say no more than `None`.
     pub(crate) fn of_letter(letter: u8) -> Option<Operation>
         ensures { result ≡ operation_of letter }
     {
@@ -40,7 +40,7 @@ impl Operation {
 }
 
 /// What the second letter of a line names: the number form of its patterns.
-#[derive(Clone, Copy)]
+#[derive(Clone, Copy, PartialEq, Eq, Debug)]
 pub enum FormName {
     Binary64,
     Binary32,
@@ -48,7 +48,7 @@ pub enum FormName {
 }
 
 impl FormName {
-    /// The form that a letter names.
+    /// The form that a letter names. No `TryFrom<u8>`: its error would say no more than `None`.
     pub(crate) fn of_letter(letter: u8) -> Option<FormName>
         ensures { result ≡ form_of letter }
     {

@@ -1,19 +1,24 @@
 //! Why a line is refused.
 ghost use Rattle.std.specs.Prelude.{◌≡◌};
-ghost use Rattle.commands.specs.declared.fault.TextFault.TheVariants.{Call as CallFault};
+ghost use Rattle.commands.specs.declared.fault.TextFault.TheVariants.{Digit as DigitFault, Call as CallFault};
+ghost use Rattle.commands.specs.Buffer.{kept};
 ghost use Rattle.commands.specs.Fault.{fault_layer, fault_number, fault_place, layer_word};
+ghost use Rattle.commands.specs.Reply.{fault_line};
 
+use crate::line_buffer::LineBuffer;
+use sheet::hex::NotADigit;
 use solver::refusal::CallRefusal;
 
 /// Where a refusal comes from.
-#[derive(Clone, Copy)]
+#[derive(Clone, Copy, PartialEq, Eq, Debug)]
 pub enum Layer {
     Text,
     Solver,
 }
 
 impl Layer {
-    /// The word that names the layer in an answer.
+    /// The word that names the layer in an answer. No `Display`: a line buffer takes bytes, which a
+    /// `write!` need not give.
     pub(crate) fn word(self) -> &'static [u8]
         ensures { result.now ≡ layer_word self }
     {
@@ -37,6 +42,14 @@ pub enum TextFault {
     Digit(usize),
     /// the solver refuses the call that the line asks for
     Call(CallRefusal),
+}
+
+impl From<NotADigit> for TextFault {
+    ghost from_gives = { λ other r. r ≡ DigitFault other.place };
+
+    fn from(other: NotADigit) -> TextFault {
+        TextFault::Digit(other.place)
+    }
 }
 
 impl From<CallRefusal> for TextFault {
@@ -86,5 +99,20 @@ impl TextFault {
             TextFault::Digit(place) => place as u64,
             TextFault::Call(refusal) => refusal.numbered().value.unwrap_or(0),
         }
+    }
+
+    /// The line that tells the refusal, with the byte 10 that ends it.
+    pub fn line(self) -> LineBuffer
+        ensures { kept result ≡ fault_line self }
+    {
+        let mut line = LineBuffer::new();
+        line.push_bytes(b"! ");
+        line.push_decimal(self.number() as u64);
+        line.push(b' ');
+        line.push_bytes(self.layer().word());
+        line.push(b' ');
+        line.push_decimal(self.place());
+        line.push(b'\n');
+        line
     }
 }

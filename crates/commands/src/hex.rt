@@ -1,38 +1,5 @@
 //! Numbers in hexadecimal digits.
-ghost use Rattle.std.specs.Prelude.{◌≡◌, ◌^◌, ◌<◌, ◌≤◌, length, IfOk};
-ghost use Rattle.commands.specs.Hex.{hex_digit, hex_number, WrittenReadsBack};
-
-use crate::fault::TextFault;
-
-/// The value of a hexadecimal digit, in either case.
-pub(crate) fn digit_value(byte: u8) -> Option<u8>
-    ensures { result ≡ hex_digit byte }
-{
-    match byte {
-        b'0'..=b'9' => Some(byte - b'0'),
-        b'a'..=b'f' => Some(byte - b'a' + 10),
-        b'A'..=b'F' => Some(byte - b'A' + 10),
-        _ => None,
-    }
-}
-
-/// The number that at most sixteen digits spell, or the place of the first byte that is no digit.
-/// The field begins at `place` of its line. Only the crate's own fields come here.
-pub(crate) fn number(place: usize, field: &[u8]) -> Result<u64, TextFault>
-    requires few { length field.now ≤ 16 }
-    requires within { place ≤ 80 }
-    ensures value { result ≡ hex_number place field.now }
-    ensures bound { IfOk result (λ v. v < 16 ^ length field.now) }
-{
-    let mut value = 0;
-    for (i, byte) in field.iter().enumerate() {
-        let Some(digit) = digit_value(*byte) else {
-            return Err(TextFault::Digit(place + i));
-        };
-        value = 16 * value + digit as u64;
-    }
-    Ok(value)
-}
+ghost use Rattle.commands.specs.Hex.{WrittenReadsBack};
 
 /// A pattern that is written reads back as itself.
 pub fn written_reads_back()

@@ -7,9 +7,9 @@ ghost use Rattle.commands.specs.Spelt.{EveryCommandHasALine};
 
 use crate::command::{Command, FormName, Operation};
 use crate::fault::TextFault;
-use crate::hex::number;
 use crate::pattern::HexPattern;
 use lengths::call::Call;
+use sheet::hex::number;
 use solver::log::Request;
 
 /// The longest line, in bytes.
@@ -26,7 +26,12 @@ pub fn parse(line: &[u8]) -> Result<Command, TextFault>
         [op, space, form, rest @ ..] => {
             let operation = Operation::of_letter(*op).ok_or(TextFault::Letter(0))?;
             let form = FormName::of_letter(*form).ok_or(TextFault::Letter(2))?;
-            command(form, operation, *space, rest)
+            let lettered = Lettered {
+                operation,
+                space: *space,
+                rest,
+            };
+            lettered.command(form)
         }
         [op, ..] if Operation::of_letter(*op).is_none() => Err(TextFault::Letter(0)),
         _ => Err(TextFault::Letter(line.len())),
@@ -43,36 +48,63 @@ pub fn every_command_has_a_line()
     ensures { EveryCommandHasALine }
 {}
 
-// The command in a form, from what stands behind the operation's letter.
-fn command(
-    form: FormName,
+// A line of at most 80 bytes by its parts: the operation that its first letter names, the byte behind
+// that letter, and what stands behind the letter of the form.
+#[derive(Clone, Copy)]
+struct Lettered<'a> {
     operation: Operation,
     space: u8,
-    rest: &[u8],
-) -> Result<Command, TextFault>
-    requires { length rest.now ≤ 80 }
-    ensures { result ≡ command_in form operation space rest.now }
-{
-    match form {
-        FormName::Binary64 => Ok(Command::Binary64(request(operation, space, rest)?)),
-        FormName::Binary32 => Ok(Command::Binary32(request(operation, space, rest)?)),
-        FormName::Thousandths => Ok(Command::Thousandths(request(operation, space, rest)?)),
-    }
+    rest: &'a [u8],
+    ghost short: { length rest.now ≤ 80 },
 }
 
-// The request of an operation, in any pattern type: layout first, then digits.
-fn request<P: HexPattern>(
-    operation: Operation,
-    space: u8,
-    rest: &[u8],
-) -> Result<Request<P>, TextFault>
-    requires { length rest.now ≤ 80 }
-    ensures { result ≡ request_of P.HexPattern.pattern P.HexPattern.width operation space rest.now }
-{
-    if space != b' ' || !is_laid_out(P::digits(), operation.fields(), rest) {
-        return Err(TextFault::Layout(3 + rest.len()));
+impl Lettered<'_> {
+    // The command in a form.
+    fn command(&self, form: FormName) -> Result<Command, TextFault>
+        ensures { result ≡ command_in form self.now.operation self.now.space self.now.rest.now }
+    {
+        match form {
+            FormName::Binary64 => Ok(Command::Binary64(self.request()?)),
+            FormName::Binary32 => Ok(Command::Binary32(self.request()?)),
+            FormName::Thousandths => Ok(Command::Thousandths(self.request()?)),
+        }
     }
-    fields(operation, rest)
+
+    // The request of the operation, in any pattern type: layout first, then digits.
+    fn request<P: HexPattern>(&self) -> Result<Request<P>, TextFault>
+        ensures { result ≡ request_of P.HexPattern.pattern P.HexPattern.DIGITS self.now.operation
+            self.now.space self.now.rest.now }
+    {
+        if self.space != b' ' || !is_laid_out(P::DIGITS, self.operation.fields(), self.rest) {
+            return Err(TextFault::Layout(3 + self.rest.len()));
+        }
+        self.fields()
+    }
+
+    // The request of the operation with its fields, which are laid out.
+    fn fields<P: HexPattern>(&self) -> Result<Request<P>, TextFault>
+        requires { length self.now.rest.now ≡ field_count self.now.operation * (P.HexPattern.DIGITS + 1) }
+        ensures { result ≡ asked_of self.now.operation
+            (field_of P.HexPattern.pattern P.HexPattern.DIGITS self.now.rest.now) }
+    {
+        let call = match self.operation {
+            Operation::NewScan => return Ok(Request::NewScan),
+            Operation::Hypot => Call::Hypot {
+                x: field(self.rest, 0)?,
+                y: field(self.rest, 1)?,
+            },
+            Operation::Cathetus => Call::Cathetus {
+                hypotenuse: field(self.rest, 0)?,
+                leg: field(self.rest, 1)?,
+            },
+            Operation::ThreeSides => Call::ThreeSides {
+                x: field(self.rest, 0)?,
+                y: field(self.rest, 1)?,
+                z: field(self.rest, 2)?,
+            },
+        };
+        Ok(Request::Length { call })
+    }
 }
 
 // Whether so many fields of so many digits stand there, by length and separators alone.
@@ -81,49 +113,21 @@ fn is_laid_out(digits: usize, count: usize, rest: &[u8]) -> bool
     requires count { count ≤ 3 }
     ensures { result ≡ laid_out digits count rest.now }
 {
-    if rest.len() != count * (digits + 1) {
-        return false;
-    }
-    for i in 0..count {
-        if rest[i * (digits + 1)] != b' ' {
-            return false;
-        }
-    }
-    true
+    rest.len() == count * (digits + 1)
+        && rest
+            .chunks_exact(digits + 1)
+            .all(|field| matches!(field, [b' ', ..]))
 }
 
-// The request of an operation with its fields, which are laid out.
-fn fields<P: HexPattern>(operation: Operation, rest: &[u8]) -> Result<Request<P>, TextFault>
-    requires { length rest.now ≡ field_count operation * (P.HexPattern.width + 1) }
-    ensures { result ≡ asked_of operation (field_of P.HexPattern.pattern P.HexPattern.width rest.now) }
-{
-    let call = match operation {
-        Operation::NewScan => return Ok(Request::NewScan),
-        Operation::Hypot => Call::Hypot {
-            x: field(rest, 0)?,
-            y: field(rest, 1)?,
-        },
-        Operation::Cathetus => Call::Cathetus {
-            hypotenuse: field(rest, 0)?,
-            leg: field(rest, 1)?,
-        },
-        Operation::ThreeSides => Call::ThreeSides {
-            x: field(rest, 0)?,
-            y: field(rest, 1)?,
-            z: field(rest, 2)?,
-        },
-    };
-    Ok(Request::Length { call })
-}
-
-// The pattern of field `i`, behind its space.
+// The pattern of field `i`, behind its space. By its index: cut off the front, a field would hand on
+// the rest and its place beside the pattern, which is no plainer.
 fn field<P: HexPattern>(rest: &[u8], i: usize) -> Result<P, TextFault>
     requires index { i < 3 }
-    requires within { (i + 1) * (P.HexPattern.width + 1) ≤ length rest.now }
-    ensures { result ≡ field_of P.HexPattern.pattern P.HexPattern.width rest.now i }
+    requires within { (i + 1) * (P.HexPattern.DIGITS + 1) ≤ length rest.now }
+    ensures { result ≡ field_of P.HexPattern.pattern P.HexPattern.DIGITS rest.now i }
 {
-    let start = 1 + i * (P::digits() + 1);
-    let number = number(3 + start, &rest[start..start + P::digits()])?;
+    let start = 1 + i * (P::DIGITS + 1);
+    let number = number(3 + start, &rest[start..start + P::DIGITS])?;
     Ok(P::from_number(number))
 }
 

@@ -4,6 +4,7 @@ ghost use Rattle.commands.specs.Input.{Reader, behind, PiecesGiveLines, PiecesDo
 ghost use Rattle.commands.specs.Pending.{pending, line_kept, last_kept};
 
 use crate::line_buffer::LineBuffer;
+use std::mem;
 
 /// The line that has begun and not ended yet, by its first 81 bytes: a longer one is refused
 /// whatever its other bytes are.
@@ -28,9 +29,7 @@ impl Pending {
         ensures begun { (reader : Reader) → pending self.old ≡ take 81 reader.begun → pending self.new ≡ take 81 (behind reader byte).begun }
     {
         if byte == b'\n' {
-            let line = self.line;
-            self.line = LineBuffer::new();
-            return Some(line);
+            return Some(mem::replace(&mut self.line, LineBuffer::new()));
         }
         self.line.push(byte);
         None

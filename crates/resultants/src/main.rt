@@ -5,7 +5,7 @@ use forms::number_form::NumberForm;
 use forms::reading::Reading;
 use forms::thousandths::Thousandths;
 use sheet::line::trimmed;
-use sheet::pair::{LineFault, Solved, solve_line};
+use sheet::pair::{Solved, solve_line};
 use std::io::{BufRead, BufReader};
 use std::{fmt, io};
 
@@ -33,22 +33,17 @@ impl fmt::Display for Shown {
     }
 }
 
-fn print_solved(rt: &HostRuntime, number: u64, solved: Solved) -> io::Result<()> {
-    let x = Shown(solved.pair.x);
-    let y = Shown(solved.pair.y);
-    let length = Shown(solved.resultant);
-    let pattern = solved.resultant;
-    println!(rt; "line {number}: {x} and {y} give {length} ({pattern:08x})")
-}
+// A pair of readings with their resultant, as a line of the output tells them.
+#[derive(Clone, Copy)]
+struct Told(Solved);
 
-fn print_fault(rt: &HostRuntime, number: u64, fault: LineFault) -> io::Result<()> {
-    match fault {
-        LineFault::Layout => println!(rt;
-            "line {number}: not two patterns of 8 hexadecimal digits with one space between"
-        ),
-        LineFault::Digit(place) => println!(rt;
-            "line {number}: no hexadecimal digit at place {place}"
-        ),
+impl fmt::Display for Told {
+    fn fmt<W: fmt::Write>(&self, f: &mut fmt::Formatter<W>) -> fmt::Result {
+        let x = Shown(self.0.pair.x);
+        let y = Shown(self.0.pair.y);
+        let length = Shown(self.0.resultant);
+        let pattern = self.0.resultant;
+        write!(f, "{x} and {y} give {length} ({pattern:08x})")
     }
 }
 
@@ -65,11 +60,12 @@ fn run(rt: &HostRuntime) -> io::Result<()> {
         match solve_line(trimmed(&line)) {
             Ok(solved) => {
                 solved_count = solved_count.saturating_add(1);
-                print_solved(rt, number, solved)?;
+                let told = Told(solved);
+                println!(rt; "line {number}: {told}")?;
             }
             Err(fault) => {
                 fault_count = fault_count.saturating_add(1);
-                print_fault(rt, number, fault)?;
+                println!(rt; "line {number}: {fault}")?;
             }
         }
     }

@@ -1,5 +1,5 @@
 -- Reading a field byte by byte: what is read so far and what is left make up the whole.
-use Rattle.std.proofs.Common.{◌≡◌, ℕ, ◌+◌, ◌*◌, ◌^◌, ◌<◌, ◌≤◌, Bool, cond, List, [], ◌∷◌, length, get_or, drop, is_some, Some, None, Ok, Err, unwrap_or, refl, ap, ◌∙◌, add-one, arith, drop-cons, pow-add, eq-eqb, ne_eqb}
+use Rattle.std.proofs.Common.{◌≡◌, ℕ, ◌+◌, ◌*◌, ◌^◌, ◌<◌, ◌≤◌, Bool, cond, List, [], ◌∷◌, length, get_or, drop, is_some, Some, None, Ok, Err, unwrap_or, ap, ◌∙◌, add-one, arith, drop-cons, pow-add, eq-eqb, ne_eqb}
 use native.Mathlib.Nat.{pow-le-pow_right}
 use lib.Seq.{drop-length}
 use Rattle.std.proofs.lemmas.Bool.Decides.{nat_tests}
@@ -10,9 +10,6 @@ pub record SoFar (field : List ℕ) (i value : ℕ) : Type 0 where
   pub digits : leading_digits field ≡ i + leading_digits (drop i field)
   pub spells : spelt_behind 0 field ≡ spelt_behind value (drop i field)
   pub small : value < 16 ^ i
-
-pub none_yet : (field : List ℕ) → SoFar field 0 0
-none_yet field = record { digits = omega arith; spells = refl; small = omega arith }
 
 pub digit_small : (byte digit : ℕ) → hex_digit byte ≡ Some digit → digit < 16
 digit_small byte digit h = grind (arith, nat_tests)

@@ -1,5 +1,5 @@
 -- A line with two patterns of 32 bits: eight hexadecimal digits, a space, eight hexadecimal digits.
-use Rattle.std.specs.Prelude.{ℕ, cond, ◌&&◌, List, [], ◌∷◌, length, take, drop, Ok, Err, Result, ◌==◌, slice_index}
+use Rattle.std.specs.Prelude.{ℕ, cond, ◌&&◌, List, [], ◌∷◌, ◌++◌, length, take, drop, Ok, Err, Result, ◌==◌, slice_index, codes, decimal}
 use Rattle.forms.specs.Thousandths.{thousandths}
 use Rattle.triangle.specs.Answer.{hypot_pattern}
 use Rattle.sheet.specs.Hex.{hex_number}
@@ -26,3 +26,8 @@ pair_of line =
 abbrev pub solved : Result Pair LineFault → Result Solved LineFault
 solved (Ok pair) = Ok (record { pair = pair; resultant = hypot_pattern thousandths (pair.x ∷ pair.y ∷ []) })
 solved (Err fault) = Err fault
+
+-- what is wrong with a line, in words
+abbrev pub fault_text : LineFault → List ℕ
+fault_text Layout = codes "not two patterns of 8 hexadecimal digits with one space between"
+fault_text (Digit place) = codes "no hexadecimal digit at place " ++ decimal place

@@ -3,12 +3,13 @@ ghost use Rattle.std.specs.Prelude.{◌≡◌, ◌^◌, ◌<◌, ◌≤◌, leng
 ghost use Rattle.sheet.specs.Hex.{hex_digit, hex_number};
 
 /// A byte of a line that should be a hexadecimal digit, and is none.
-#[derive(Clone, Copy)]
+#[derive(Clone, Copy, PartialEq, Eq, Debug)]
 pub struct NotADigit {
     pub place: usize,
 }
 
-/// The value of a hexadecimal digit, in either case.
+/// The value of a hexadecimal digit, in either case. `char::to_digit` is no plainer: it goes by way of a
+/// `char` and a `u32`.
 pub fn digit_value(byte: u8) -> Option<u8>
     ensures { result ≡ hex_digit byte }
 {
@@ -21,8 +22,9 @@ pub fn digit_value(byte: u8) -> Option<u8>
 }
 
 /// The number that at most sixteen digits spell, or the place of the first byte that is no digit.
-/// The field begins at `place` of its line. Only the crate's own fields come here.
-pub(crate) fn number(place: usize, field: &[u8]) -> Result<u64, NotADigit>
+/// The field begins at `place` of its line. An inner function, public for `commands`: only fields of
+/// lines that are laid out come here.
+pub fn number(place: usize, field: &[u8]) -> Result<u64, NotADigit>
     requires few { length field.now ≤ 16 }
     requires within { place ≤ 80 }
     ensures value { result ≡ hex_number place field.now }

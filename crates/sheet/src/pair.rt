@@ -1,9 +1,11 @@
 //! Lines with a pair of probe readings.
-ghost use Rattle.std.specs.Prelude.{◌≡◌};
-ghost use Rattle.sheet.specs.Pair.{pair_of, solved};
+ghost use Rattle.std.specs.Prelude.{◌≡◌, Some};
+ghost use Rattle.sheet.specs.Pair.{pair_of, solved, fault_text};
 ghost use Rattle.sheet.specs.declared.pair.LineFault.TheVariants.{Digit};
 
 use crate::hex::{NotADigit, number};
+use std::error::Error;
+use std::fmt;
 use triangle::resultant::resultant;
 
 /// Two patterns of 32 bits.
@@ -29,6 +31,21 @@ impl From<NotADigit> for LineFault {
         LineFault::Digit(other.place)
     }
 }
+
+impl fmt::Display for LineFault {
+    ghost output = { λ fault. Some (fault_text fault) };
+
+    fn fmt<W: fmt::Write>(&self, f: &mut fmt::Formatter<W>) -> fmt::Result {
+        match self {
+            LineFault::Layout => f.write_str(
+                "not two patterns of 8 hexadecimal digits with one space between",
+            ),
+            LineFault::Digit(place) => write!(f, "no hexadecimal digit at place {place}"),
+        }
+    }
+}
+
+impl Error for LineFault {}
 
 /// Two readings with their resultant.
 #[derive(Clone, Copy, PartialEq, Eq, Debug)]

@@ -8,17 +8,21 @@
 use commands::command::Command;
 use commands::line_buffer::LineBuffer;
 use commands::parse::parse;
+use commands::pattern::HexPattern;
 use commands::reply::Reply;
 use forms::binary::{Binary32, Binary64};
+use forms::number_form::NumberForm;
 use forms::thousandths::Thousandths;
 use lengths::length::length_of;
+use sheet::line::trimmed;
 use solver::log::Request;
 use sources::digit::DigitSource;
 use std::io::{BufRead, BufReader, Write};
-use std::{fmt, io};
+use std::ops::AddAssign;
+use std::{fmt, io, mem};
 
 // What became of the vectors so far.
-#[derive(Clone, Copy, PartialEq)]
+#[derive(Clone, Copy, Default, PartialEq)]
 struct Tally {
     right: u64,
     differing: u64,
@@ -26,55 +30,32 @@ struct Tally {
     unread: u64,
 }
 
+// The line that answers a request in a form, or nothing where it asks for no length.
+fn length_line<F: NumberForm>(request: Request<F::Pattern>) -> Option<LineBuffer>
+where
+    F::Pattern: HexPattern,
+{
+    match request {
+        Request::Length { call } => {
+            let length = length_of::<F, DigitSource>(&DigitSource, call);
+            Some(Reply::length(length).line())
+        }
+        Request::NewScan => None,
+    }
+}
+
 // The answer to a call's line, or nothing where it asks for no length.
 fn answer(line: &[u8]) -> Option<LineBuffer> {
-    match parse(line) {
-        Ok(Command::Binary64(Request::Length { call })) => {
-            let length = length_of::<Binary64, DigitSource>(&DigitSource, call);
-            Some(Reply::length(length).line())
-        }
-        Ok(Command::Binary32(Request::Length { call })) => {
-            let length = length_of::<Binary32, DigitSource>(&DigitSource, call);
-            Some(Reply::length(length).line())
-        }
-        Ok(Command::Thousandths(Request::Length { call })) => {
-            let length = length_of::<Thousandths, DigitSource>(&DigitSource, call);
-            Some(Reply::length(length).line())
-        }
-        _ => None,
+    match parse(line).ok()? {
+        Command::Binary64(request) => length_line::<Binary64>(request),
+        Command::Binary32(request) => length_line::<Binary32>(request),
+        Command::Thousandths(request) => length_line::<Thousandths>(request),
     }
 }
 
 // Whether the answer begins with what is known of it, and that ends where a word of the answer does.
 fn agrees(answer: &[u8], known: &[u8]) -> bool {
-    if known.len() >= answer.len() || !answer.starts_with(known) {
-        return false;
-    }
-    let next = answer[known.len()];
-    next == b' ' || next == b'\n'
-}
-
-// One more vector.
-fn replayed(tally: Tally, call: &[u8], known: &[u8]) -> Tally {
-    let mut after = tally;
-    match (answer(call), known) {
-        (Some(line), [b'=', rest @ ..]) => {
-            if agrees(behind_mark(&line), rest) {
-                after.right = after.right.saturating_add(1);
-            } else {
-                after.wrong = after.wrong.saturating_add(1);
-            }
-        }
-        (Some(line), [b'x', rest @ ..]) => {
-            if agrees(behind_mark(&line), rest) {
-                after.wrong = after.wrong.saturating_add(1);
-            } else {
-                after.differing = after.differing.saturating_add(1);
-            }
-        }
-        _ => after.unread = after.unread.saturating_add(1),
-    }
-    after
+    matches!(answer.strip_prefix(known), Some([b' ' | b'\n', ..]))
 }
 
 // The answer behind the byte that marks it.
@@ -85,40 +66,44 @@ fn behind_mark(line: &LineBuffer) -> &[u8] {
     }
 }
 
-// A line without the byte 10 at its end.
-fn trimmed(line: &[u8]) -> &[u8] {
-    match line {
-        [text @ .., b'\n'] => text,
-        _ => line,
+impl Tally {
+    // Counts one more vector.
+    fn replay(&mut self, call: &[u8], known: &[u8]) {
+        let count = match answer(call) {
+            Some(line) => self.count_of(behind_mark(&line), known),
+            None => &mut self.unread,
+        };
+        *count = count.saturating_add(1);
+    }
+
+    // The count that an answer falls into, by what is known of it.
+    fn count_of(&mut self, told: &[u8], known: &[u8]) -> &mut u64 {
+        match known {
+            [b'=', rest @ ..] if agrees(told, rest) => &mut self.right,
+            [b'x', rest @ ..] if !agrees(told, rest) => &mut self.differing,
+            [b'=' | b'x', ..] => &mut self.wrong,
+            _ => &mut self.unread,
+        }
     }
 }
 
-impl Tally {
-    fn none() -> Tally {
-        Tally {
-            right: 0,
-            differing: 0,
-            wrong: 0,
-            unread: 0,
-        }
-    }
-
-    fn plus(self, other: Tally) -> Tally {
-        Tally {
-            right: self.right.saturating_add(other.right),
-            differing: self.differing.saturating_add(other.differing),
-            wrong: self.wrong.saturating_add(other.wrong),
-            unread: self.unread.saturating_add(other.unread),
-        }
+impl AddAssign for Tally {
+    fn add_assign(&mut self, other: Tally) {
+        self.right = self.right.saturating_add(other.right);
+        self.differing = self.differing.saturating_add(other.differing);
+        self.wrong = self.wrong.saturating_add(other.wrong);
+        self.unread = self.unread.saturating_add(other.unread);
     }
 }
 
 impl fmt::Display for Tally {
     fn fmt<W: fmt::Write>(&self, f: &mut fmt::Formatter<W>) -> fmt::Result {
-        let right = self.right;
-        let differing = self.differing;
-        let wrong = self.wrong;
-        let unread = self.unread;
+        let Tally {
+            right,
+            differing,
+            wrong,
+            unread,
+        } = self;
         write!(
             f,
             "{right} right, {differing} wrong answers of others differ, {wrong} not as known, {unread} not read"
@@ -135,8 +120,8 @@ fn run(rt: &HostRuntime) -> io::Result<()> {
     let mut input = BufReader::new(rt.alloc(), rt.stdin())?;
     let mut call = Vec::new(rt.alloc());
     let mut known = Vec::new(rt.alloc());
-    let mut section = Tally::none();
-    let mut total = Tally::none();
+    let mut section = Tally::default();
+    let mut total = Tally::default();
     for _line in 0..u64::MAX {
         call.clear();
         known.clear();
@@ -144,20 +129,19 @@ fn run(rt: &HostRuntime) -> io::Result<()> {
             break;
         }
         if call.starts_with(b"#") {
-            if section != Tally::none() {
+            if section != Tally::default() {
                 println!(rt; "{section}")?;
             }
             print_heading(rt, &call)?;
-            total = total.plus(section);
-            section = Tally::none();
+            total += mem::take(&mut section);
             continue;
         }
         input.read_until(b'\n', &mut known)?;
-        section = replayed(section, trimmed(&call), trimmed(&known));
+        section.replay(trimmed(&call), trimmed(&known));
     }
     println!(rt; "{section}")?;
-    let all = total.plus(section);
-    println!(rt; "in all: {all}")
+    total += section;
+    println!(rt; "in all: {total}")
 }
 
 fn main(rt: HostRuntime) -> io::Result<()> {

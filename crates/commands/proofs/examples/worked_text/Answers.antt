@@ -1,6 +1,7 @@
 use Rattle.std.proofs.Common.{refl}
 use Rattle.std.specs.Fmt.{digits}
-use Rattle.commands.specs.Hex.{leading_digits, spelt_behind, hex_digits}
+use Rattle.sheet.specs.Hex.{leading_digits, spelt_behind}
+use Rattle.commands.specs.Hex.{hex_digits}
 use Rattle.commands.specs.Fields.{spaced}
 use Rattle.commands.specs.Input.{lines_of}
 use Rattle.commands.proofs.examples.worked_text.Goals as goal

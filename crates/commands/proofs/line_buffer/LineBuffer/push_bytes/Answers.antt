@@ -1,5 +1,5 @@
 use Rattle.std.proofs.Common.{[], ◌∷◌, ◌++◌, get_or, take, sym, ap, ◌∙◌}
-use Rattle.std.proofs.lemmas.List.{append-nil, take_all, take_more}
+use Rattle.std.proofs.lemmas.List.{append-nil, take_more}
 use Rattle.commands.specs.Buffer.{kept}
 use Rattle.commands.proofs.Cut.{kept_whole, pushed_more}
 use Rattle.commands.proofs.line_buffer.LineBuffer.push_bytes.Goals as goal
@@ -14,6 +14,3 @@ loop-byte-preserved c =
     let i = c.loop-byte.byte-index in
     pushed_more xs (take i bytes) (get_or bytes i 0 ∷ []) c.loop-byte.invariant c.push.ensures
     ∙ ap (λ more. take 81 (xs ++ more)) (sym (take_more bytes i 0 c.loop-byte-test.true))
-
-pub returns : goal.returns
-returns c = c.loop-byte.invariant ∙ ap (λ bytes. take 81 (kept c.args.self.now ++ bytes)) (take_all c.loop-byte.byte-index c.args.bytes.now c.loop-byte-test.false)

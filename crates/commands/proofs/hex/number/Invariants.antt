@@ -1,5 +1,0 @@
-use Rattle.commands.proofs.Numbers.{SoFar}
-use Rattle.commands.proofs.hex.number.Given as goal
-
-abbrev pub invariant-loop-i : goal.invariant-loop-i
-invariant-loop-i l = SoFar l.field l.i l.value
