@@ -74,6 +74,7 @@ pub fn minus(a: Wide, b: Wide) -> Wide
 }
 
 /// The number over `2^by`, cut to whole units; `by` is at most a limb.
+#[tactic(auto, using(crate::proofs::Shifts::limb))]
 pub fn lower(wide: Wide, by: u32) -> Truncated
     requires { by ≤ 56 }
     ensures { Truncates (units result.wide) result.cut (units wide) (2 ^ by) }

@@ -1,4 +1,4 @@
-//! Two sides that are not far from each other, as heads and radicands take them.
+//! Two sides that are not far from each other: their head, and the same sides by significands.
 ghost use Rattle.std.specs.Prelude.{◌≡◌, false, [], ◌∷◌, ◌-◌, ◌<◌, ◌≤◌};
 ghost use Rattle.sides.specs.Order.{side_units, is_far};
 
@@ -43,7 +43,7 @@ impl NearPair {
         sides.three_head(third.near_side())
     }
 
-    /// The sides as a head takes them.
+    /// The sides by significands, for a head.
     pub fn for_head(self) -> HeadSides
         ensures largest { result.largest ≡ self.largest.significand }
         ensures other { result.other.significand ≡ self.other.significand }
@@ -55,7 +55,7 @@ impl NearPair {
         }
     }
 
-    /// The sides as a radicand takes them.
+    /// The sides by significands, for a radicand.
     pub fn for_radicand(self) -> NearSides
         ensures largest { result.largest ≡ self.largest.significand }
         ensures other { result.other.significand ≡ self.other.significand }
@@ -67,7 +67,7 @@ impl NearPair {
         }
     }
 
-    // The other side as a head takes it.
+    // The other side by its significand, for a head.
     fn near_side(self) -> NearSide
         ensures other { result.significand ≡ self.other.significand }
         ensures below { result.below ≡ self.largest.bits - self.other.bits }
