@@ -1,5 +1,5 @@
 -- A column's calls go on the log one by one: the entries that were served so far grow by one with each turn.
-use Rattle.std.proofs.Common.{◌≡◌, ℕ, zero, suc, ◌+◌, ◌<◌, ◌≤◌, List, [], ◌∷◌, ◌++◌, length, get_or, take, set, Ok, Err, Result, ap, ◌∙◌, add-one, arith}
+use Rattle.std.proofs.Common.{◌≡◌, ℕ, zero, suc, ◌+◌, ◌<◌, ◌≤◌, List, [], ◌∷◌, ◌++◌, length, get_or, take, set, Ok, Err, Result, ap, add-one, arith}
 use Rattle.std.proofs.lemmas.List.{take_all}
 use Rattle.forms.specs.Encoding.{Encoding}
 use Rattle.sources.specs.Source.{Source}
@@ -12,7 +12,7 @@ use Rattle.solver.proofs.Extensions.{logs_join}
 use Rattle.columns.specs.declared.column.Operation.{Operation}
 use Rattle.columns.specs.declared.refusal.ColumnRefusal.{ColumnRefusal}
 use Rattle.columns.specs.declared.refusal.ColumnRefusal.TheVariants.{AtEntry}
-use Rattle.columns.specs.Column.{call_of, length_written, count_written}
+use Rattle.columns.specs.Column.{call_of}
 use Rattle.columns.specs.ColumnLog.{served_entries, told_column}
 use Rattle.columns.proofs.Entries.{head_drop}
 
@@ -36,7 +36,7 @@ served_length operation (x ∷ xs) (y ∷ ys) [] cs = omega arith
 served_length operation (x ∷ xs) (y ∷ ys) (l ∷ ls) [] = omega arith
 served_length operation (x ∷ xs) (y ∷ ys) (l ∷ ls) (c ∷ cs) = omega (arith, served_length operation xs ys ls cs)
 
-module _ {F R P : Type 0} (encoding : Encoding P) (meaning : R → Source) (operation : Operation) (first solver after : Sealed F R) (i : ℕ) (xs ys ls lengths : List P) (cs counts : List ℕ) where
+module _ {F R P : Type 0} (encoding : Encoding P) (meaning : R → Source) (operation : Operation) (first solver after : Sealed F R) (i : ℕ) (xs ys ls : List P) (cs : List ℕ) where
   -- the entries before i are logged
   abbrev pub Logged : Type 0
   Logged = Logs encoding meaning first (take i (served_entries operation xs ys ls cs)) solver
@@ -46,8 +46,6 @@ module _ {F R P : Type 0} (encoding : Encoding P) (meaning : R → Source) (oper
     made = call_result encoding meaning solver (call_of operation x y)
 
     module _
-        (wl : lengths ≡ length_written i made ls)
-        (wc : counts ≡ count_written i made cs)
         (rx : x ≡ get_or xs i x)
         (ry : y ≡ get_or ys i y)
         (hx : i < length xs)
@@ -57,20 +55,16 @@ module _ {F R P : Type 0} (encoding : Encoding P) (meaning : R → Source) (oper
         (before : Logged)
         (here : Logs encoding meaning solver (told_call (call_of operation x y) made) after)
       where
-        pub logs_entry : (measured : Measured P) → made ≡ Ok measured → Logs encoding meaning first (take (i + 1) (served_entries operation xs ys lengths counts)) after
+        pub logs_entry : (measured : Measured P) → made ≡ Ok measured → Logs encoding meaning first (take (i + 1) (served_entries operation xs ys (set ls i measured.pattern) (set cs i measured.count))) after
         logs_entry measured e =
             let told = rw e at here in
-            let vl : lengths ≡ set ls i measured.pattern = wl ∙ ap (λ r. length_written i r ls) e in
-            let vc : counts ≡ set cs i measured.count = wc ∙ ap (λ r. count_written i r cs) e in
-            rw (vl, vc, add-one, served_more operation i xs ys ls cs x y measured rx ry hx hy hl hc) (logs_join encoding meaning first solver after _ (told_call (call_of operation x y) (Ok measured)) before told)
+            rw (add-one, served_more operation i xs ys ls cs x y measured rx ry hx hy hl hc) (logs_join encoding meaning first solver after _ (told_call (call_of operation x y) (Ok measured)) before told)
 
         pub logs_stop : (refusal : CallRefusal) → made ≡ Err refusal → (r : Result (Unit {0}) ColumnRefusal) → r ≡ Err (AtEntry (record { place = i; refusal = refusal }))
-            → Logs encoding meaning first (told_column operation xs ys lengths counts r) after
+            → Logs encoding meaning first (told_column operation xs ys ls cs r) after
         logs_stop refusal e r q =
             let told = rw e at here in
-            let vl : lengths ≡ ls = wl ∙ ap (λ r. length_written i r ls) e in
-            let vc : counts ≡ cs = wc ∙ ap (λ r. count_written i r cs) e in
-            rw (q, vl, vc, head_drop xs i x hx rx, head_drop ys i y hy ry) (logs_join encoding meaning first solver after _ (told_call (call_of operation x y) (Err refusal)) before told)
+            rw (q, head_drop xs i x hx rx, head_drop ys i y hy ry) (logs_join encoding meaning first solver after _ (told_call (call_of operation x y) (Err refusal)) before told)
 
   pub logs_all : length xs ≤ i → Logged → Logs encoding meaning first (served_entries operation xs ys ls cs) solver
   logs_all h before = rw (take_all i (served_entries operation xs ys ls cs) (omega (arith, served_length operation xs ys ls cs))) at before

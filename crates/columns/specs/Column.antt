@@ -1,5 +1,5 @@
 -- What a column call writes, returns and leaves.
-use Rattle.std.specs.Prelude.{ℕ, ◌+◌, Bool, cond, ◌&&◌, List, [], ◌∷◌, length, Ok, Err, Result, ◌==◌, nat_lt, slice_set}
+use Rattle.std.specs.Prelude.{ℕ, ◌+◌, Bool, cond, ◌&&◌, List, [], ◌∷◌, length, Ok, Err, Result, ◌==◌, nat_lt}
 use Rattle.forms.specs.Encoding.{Encoding}
 use Rattle.sources.specs.Source.{Source}
 use Rattle.lengths.specs.declared.call.Call.{Call}
@@ -19,19 +19,10 @@ abbrev pub call_of : {P : Type 0} → Operation → P → P → Call P
 call_of HypotColumn x y = Hypot x y
 call_of CathetusColumn x y = Cathetus x y
 
--- how the entry at this place ended, from what its call returned
-abbrev pub at_place : {P : Type 0} → ℕ → Result (Measured P) CallRefusal → Result (Unit {0}) EntryRefused
-at_place place (Ok measured) = Ok tt
+-- what the call at this place returned, its refusal with the place
+abbrev pub at_place : {P : Type 0} → ℕ → Result (Measured P) CallRefusal → Result (Measured P) EntryRefused
+at_place place (Ok measured) = Ok measured
 at_place place (Err refusal) = Err (record { place = place; refusal = refusal })
-
--- the answer columns with the entry at this place written, if it was served
-abbrev pub length_written : {P : Type 0} → ℕ → Result (Measured P) CallRefusal → List P → List P
-length_written place (Ok measured) ls = slice_set ls place measured.pattern
-length_written place (Err refusal) ls = ls
-
-abbrev pub count_written : {P : Type 0} → ℕ → Result (Measured P) CallRefusal → List ℕ → List ℕ
-count_written place (Ok measured) cs = slice_set cs place measured.count
-count_written place (Err refusal) cs = cs
 
 -- the answer columns, the solver and the result
 pub record LeftBy (F R P : Type 0) : Type 0 where

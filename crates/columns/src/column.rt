@@ -1,13 +1,13 @@
 //! The lengths of two columns of sides, entry by entry.
-ghost use Rattle.std.specs.Prelude.{◌≡◌, ◌<◌, length};
+ghost use Rattle.std.specs.Prelude.{◌≡◌, length};
 ghost use Rattle.solver.specs.Serving.{call_result, after_call};
 ghost use Rattle.solver.specs.Log.{Logs, told_call};
-ghost use Rattle.columns.specs.Column.{call_of, at_place, length_written, count_written, entries, checked_shape, column_of, left_by};
+ghost use Rattle.columns.specs.Column.{call_of, at_place, entries, checked_shape, column_of, left_by};
 ghost use Rattle.columns.specs.ColumnLog.{told_column};
 
 use crate::refusal::{ColumnRefusal, EntryRefused};
 use forms::number_form::NumberForm;
-use lengths::call::Call;
+use lengths::call::{Call, Measured};
 use solver::states::Sealed;
 use sources::root_source::RootSource;
 
@@ -82,33 +82,24 @@ fn fill<F: NumberForm, R: RootSource>(
 {
     // By index: zipped with the columns to write, an entry is `(i, (((x, y), length), count))`, no plainer.
     for (i, x) in xs.iter().enumerate() {
-        entry(solver, i, operation, *x, ys[i], lengths, counts)?;
+        let measured = measured_at(i, solver, operation.call(*x, ys[i]))?;
+        lengths[i] = measured.pattern;
+        counts[i] = measured.count;
     }
     Ok(())
 }
 
-// One entry: its length and count are written, or its refusal takes the place with it.
-fn entry<F: NumberForm, R: RootSource>(
-    solver: &mut Sealed<F, R>,
+// The length of the call at a place of its column, or its refusal, which takes the place with it.
+fn measured_at<F: NumberForm, R: RootSource>(
     place: usize,
-    operation: Operation,
-    x: F::Pattern,
-    y: F::Pattern,
-    lengths: &mut [F::Pattern],
-    counts: &mut [u64],
-) -> Result<(), EntryRefused>
-    requires lengths { place < length lengths.old }
-    requires counts { place < length counts.old }
-    ensures value { result ≡ at_place place (call_result F.NumberForm.encoding R.RootSource.meaning solver.old (call_of operation x y)) }
-    ensures lengths { lengths.new ≡ length_written place (call_result F.NumberForm.encoding R.RootSource.meaning solver.old (call_of operation x y)) lengths.old }
-    ensures counts { counts.new ≡ count_written place (call_result F.NumberForm.encoding R.RootSource.meaning solver.old (call_of operation x y)) counts.old }
-    ensures after { solver.new ≡ after_call F.NumberForm.encoding R.RootSource.meaning solver.old (call_of operation x y) }
-    ensures log { Logs F.NumberForm.encoding R.RootSource.meaning solver.old (told_call (call_of operation x y) (call_result F.NumberForm.encoding R.RootSource.meaning solver.old (call_of operation x y))) solver.new }
+    solver: &mut Sealed<F, R>,
+    call: Call<F::Pattern>,
+) -> Result<Measured<F::Pattern>, EntryRefused>
+    ensures value { result ≡ at_place place (call_result F.NumberForm.encoding R.RootSource.meaning solver.old call) }
+    ensures after { solver.new ≡ after_call F.NumberForm.encoding R.RootSource.meaning solver.old call }
+    ensures log { Logs F.NumberForm.encoding R.RootSource.meaning solver.old (told_call call (call_result F.NumberForm.encoding R.RootSource.meaning solver.old call)) solver.new }
 {
-    let measured = solver
-        .measure(operation.call(x, y))
-        .map_err(|refusal| EntryRefused { place, refusal })?;
-    lengths[place] = measured.pattern;
-    counts[place] = measured.count;
-    Ok(())
+    solver
+        .measure(call)
+        .map_err(|refusal| EntryRefused { place, refusal })
 }
