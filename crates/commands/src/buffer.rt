@@ -53,7 +53,8 @@ impl LineBuffer {
         self.push_bytes(digits.format(number).as_bytes());
     }
 
-    /// Adds the last so many hexadecimal digits of a number, in small letters.
+    /// Adds the last so many hexadecimal digits of a number, in small letters. By its own recursion: the
+    /// contract of `write!` pins no byte where it answers an error, and the crate `hex` spells byte arrays.
     pub(crate) fn push_hex(&mut self, digits: u8, number: u64)
         ensures { kept self.new ≡ take 81 (kept self.old ++ hex_digits digits number) }
     {

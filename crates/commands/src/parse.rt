@@ -63,6 +63,7 @@ impl Lettered<'_> {
     fn command(&self, form: FormName) -> Result<Command, TextFault>
         ensures { result ≡ command_in form self.now.operation self.now.space self.now.rest.now }
     {
+        // An arm a form, since each has patterns of its own type.
         match form {
             FormName::Binary64 => Ok(Command::Binary64(self.request()?)),
             FormName::Binary32 => Ok(Command::Binary32(self.request()?)),

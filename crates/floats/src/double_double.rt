@@ -17,6 +17,7 @@ pub struct DoubleDouble {
     pub lo: f64,
 }
 
+// The two terms of a sum stay two parameters: a pair of floats is what a sum gives, and not what it takes.
 impl DoubleDouble {
     /// The exact sum of `a` and `b`, where `a` is no smaller in size. For inner callers, which see to
     /// that, and that both are finite and at most 2^1000 in size.

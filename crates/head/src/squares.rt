@@ -1,4 +1,5 @@
-//! Sums and differences of squares in floats. Every operation is rounded once, so the order counts.
+//! Sums and differences of squares in floats. Every operation is rounded once, so the order counts, and
+//! the operands are named one by one.
 ghost use Rattle.std.specs.Prelude.{◌≡◌};
 ghost use Rattle.head.specs.Squares.{two_squares, three_squares, squares_difference};
 

@@ -51,7 +51,8 @@ fn pose<F: NumberForm>(call: Call<F::Pattern>) -> ControlFlow<F::Pattern, Posed>
     }
 }
 
-// The root of the sum of two squares.
+// The root of the sum of two squares. Here and below sides are named one by one, since a leg takes its
+// two sides in another part than a sum.
 fn two_sides<F: NumberForm>(x: SideReading<F>, y: SideReading<F>) -> ControlFlow<F::Pattern, Posed>
     ensures { PosedUnlessPlain F.NumberForm.encoding (sum_of (x.reading ∷ y.reading ∷ [])) result }
 {

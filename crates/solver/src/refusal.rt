@@ -20,7 +20,8 @@ pub enum CallRefusal {
     TooFewSteps { steps_left: u64 },
 }
 
-/// A refusal by its number, with the place and the value that it tells, if any.
+/// A refusal as it is told to a reader: its number, with the place and the value, if any. Code goes by
+/// the cases and not by the number.
 #[derive(Clone, Copy, PartialEq, Eq, Debug)]
 pub struct Numbered {
     pub number: u32,

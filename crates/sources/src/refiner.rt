@@ -70,7 +70,8 @@ impl<S: RootSource> RootSource for Refiner<S> {
     }
 }
 
-// The grade after a number of steps.
+// The grade after a number of steps. Its loop and that of `guess_after` stay two: one function over the
+// step would take as facts on a closure what each step requires and keeps, which is no plainer.
 fn grade_after(grade: u32, steps: u32) -> u32
     requires { grade ≤ 53 }
     ensures { result ≡ repeated steps refined_grade grade }

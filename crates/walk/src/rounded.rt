@@ -20,6 +20,7 @@ use radicand::words::Radicand;
 pub struct Rounded {
     pub significand: u64,
     pub dropped: u32,
+    /// a flag and no `Option`, since the significand holds either way
     pub carried: bool,
     pub count: u64,
 }

@@ -94,7 +94,8 @@ impl<F: NumberForm, R: RootSource> Sealed<F, R> {
         }
     }
 
-    // Whether enough steps are left for any call.
+    // Whether enough steps are left for any call. The grade is tested again and is no ghost field: every
+    // definition over sealed solvers would be over the meaning of their source as well, which is no plainer.
     fn can_serve(&self) -> bool
         ensures { result ≡ serves (R.RootSource.meaning self.now.source) self.now.steps_left }
     {
