@@ -20,7 +20,7 @@ use super::squares::{difference, sum_of_three, sum_of_two};
 use super::word::{Head, head_word};
 
 /// The largest side and another, near it.
-#[derive(Clone, Copy)]
+#[derive(Clone, Copy, PartialEq, Eq, Debug)]
 pub struct HeadSides {
     /// the significand of the largest side
     pub largest: u64,
@@ -98,6 +98,10 @@ mod tests {
 
     const ONE: u64 = 0x10_0000_0000_0000;
 
+    fn head(word: u64, places: u32) -> Head {
+        Head { word, places }
+    }
+
     #[test]
     fn one_and_one(rt: HostRuntime) {
         // 1 + 1 = 2^63 / 4^31
@@ -109,9 +113,7 @@ mod tests {
             largest: ONE,
             other,
         };
-        let head = sides.two_head();
-        assert_eq!(rt; head.word, 0x8000_0000_0000_0000);
-        assert_eq!(rt; head.places, 31);
+        assert_eq!(rt; sides.two_head(), head(0x8000_0000_0000_0000, 31));
     }
 
     #[test]
@@ -125,9 +127,7 @@ mod tests {
             largest: ONE,
             other: half,
         };
-        let head = sides.three_head(half);
-        assert_eq!(rt; head.word, 0x6000_0000_0000_0000);
-        assert_eq!(rt; head.places, 31);
+        assert_eq!(rt; sides.three_head(half), head(0x6000_0000_0000_0000, 31));
     }
 
     #[test]
@@ -141,9 +141,7 @@ mod tests {
             largest: 0x14_0000_0000_0000,
             other: leg,
         };
-        let head = sides.leg_head();
-        assert_eq!(rt; head.word, 0x9000_0000_0000_0000);
-        assert_eq!(rt; head.places, 32);
+        assert_eq!(rt; sides.leg_head(), head(0x9000_0000_0000_0000, 32));
     }
 
     #[test]
@@ -157,8 +155,6 @@ mod tests {
             largest: ONE,
             other: leg,
         };
-        let head = sides.leg_head();
-        assert_eq!(rt; head.word, 1 << 62);
-        assert_eq!(rt; head.places, 57);
+        assert_eq!(rt; sides.leg_head(), head(1 << 62, 57));
     }
 }

@@ -3,7 +3,7 @@ ghost use Rattle.std.specs.Prelude.{◌≡◌, ◌*◌, ◌^◌, ◌<◌, ◌≤
 ghost use Rattle.head.specs.Side.{Full, scaled_side, side_pattern};
 
 /// A significand of exactly 53 bits, and by how many binary places it was moved up.
-#[derive(Clone, Copy)]
+#[derive(Clone, Copy, PartialEq, Eq, Debug)]
 pub struct FullSignificand {
     pub significand: u64,
     pub moved: u32,
@@ -28,7 +28,7 @@ pub fn full_length(k: u64) -> FullSignificand
 
 /// A side near the largest one: `significand * 2^-(52 + below)`, with a significand of exactly 53 bits,
 /// where the largest side lies from 1 to 2.
-#[derive(Clone, Copy)]
+#[derive(Clone, Copy, PartialEq, Eq, Debug)]
 pub struct NearSide {
     pub significand: u64,
     /// how many binary places its leading bit lies below that of the largest side

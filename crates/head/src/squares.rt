@@ -14,7 +14,7 @@ pub fn sum_of_two(x: f64, y: f64) -> f64
 pub fn sum_of_three(x: f64, y: f64, z: f64) -> f64
     ensures { result ≡ three_squares x y z }
 {
-    (x * x + y * y) + z * z
+    sum_of_two(x, y) + z * z
 }
 
 /// `x^2 - y^2`, as a product.

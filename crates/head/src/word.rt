@@ -4,7 +4,8 @@ ghost use Rattle.std.specs.Prelude.{◌≡◌, ◌/◌, ◌^◌, ◌≤◌};
 ghost use Rattle.head.specs.Head.{Heads, Ordinary, HeadExists, HeadIsUnique, HeadIsComputed, pattern_word, pattern_places};
 
 /// The number `word / 4^places`, where the word has 63 or 64 bits.
-#[derive(Clone, Copy)]
+// Places from 30 to 57 are no ghost field: `head_word` gives a head of any ordinary float, from 2^-83 on.
+#[derive(Clone, Copy, PartialEq, Eq, Debug)]
 pub struct Head {
     pub word: u64,
     pub places: u32,
