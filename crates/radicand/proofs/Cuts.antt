@@ -1,33 +1,31 @@
 -- Numbers in limbs after several cuts: a far side, and a number in the scale of a head.
-use Rattle.std.proofs.Common.{◌≡◌, ℕ, ◌+◌, ◌-◌, ◌*◌, ◌^◌, ◌<◌, ◌≤◌, Bool, ◌||◌, ap, subst, inl, inr, mul-le-mul_right, lt_of_not-le, arith, pow-add}
+use Rattle.std.proofs.Common.{◌≡◌, ℕ, ◌+◌, ◌-◌, ◌*◌, ◌^◌, ◌<◌, ◌≤◌, Bool, ap, subst, inl, inr, mul-le-mul_right, lt_of_not-le, arith, pow-add}
 use native.Mathlib.Nat.{pow-le-pow_right}
 use Rattle.exact.proofs.Squares.{lt_or_le, four_pos}
 use Rattle.radicand.specs.Sides.{head_scaled, denominator}
 use Rattle.radicand.specs.Truncation.{Truncates}
 use Rattle.radicand.proofs.Scales.{scale, three_cuts}
-use Rattle.radicand.proofs.Truncations.{cut_twice, same_fraction, below_one}
+use Rattle.radicand.proofs.Truncations.{same_fraction, below_one}
 
--- the whole part of what is below b is below b
-pub quotient_below : (n b v m : ℕ) (cut : Bool) → v < b * m → Truncates n cut v m → n < b
-quotient_below n b v m cut h t = lt_of_not-le (λ (g : b ≤ n). omega (arith, t.whole, mul-le-mul_right m g))
+-- what times m is below b times m is below b
+pub quotient_below : (n b v m : ℕ) → v < b * m → n * m ≤ v → n < b
+quotient_below n b v m h t = lt_of_not-le (λ (g : b ≤ n). omega (arith, t, mul-le-mul_right m g))
 
 -- the units of a number, cut once more to what the words count
-pub scaled_down : (n k x d p : ℕ) (a b : Bool) → p ≤ 57 → Truncates n a (x * 2 ^ 56) (4 ^ d) → Truncates k b n (2 ^ (114 - 2 * p)) → Truncates k (a || b) (head_scaled x p) (denominator d)
+pub scaled_down : (k x d p : ℕ) (a : Bool) → p ≤ 57 → Truncates k a (x * 2 ^ 56) (4 ^ d * 2 ^ (114 - 2 * p)) → Truncates k a (head_scaled x p) (denominator d)
 unfolding head_scaled denominator
-scaled_down n k x d p a b P t s =
-    same_fraction k (a || b) (x * 2 ^ 56) (4 ^ d * 2 ^ (114 - 2 * p)) (x * 4 ^ (23 + p)) (4 ^ (52 + d))
+scaled_down k x d p a P t =
+    same_fraction k a (x * 2 ^ 56) (4 ^ d * 2 ^ (114 - 2 * p)) (x * 4 ^ (23 + p)) (4 ^ (52 + d))
     (four_pos (52 + d))
     (omega (arith, ap (λ (y : ℕ). x * 4 ^ d * y) (scale p P), ap (λ (y : ℕ). x * y) (pow-add 4 52 d)))
-    (cut_twice n k a b (x * 2 ^ 56) (4 ^ d) (2 ^ (114 - 2 * p)) t s)
+    t
 
 -- three cuts, of at most 28 places each, of a number of three limbs
-module _ (w p a b c i j k : ℕ) (x y z : Bool) (W : w < 2 ^ 168) where
-  pub far_cut : (p ≤ 84 → a + b + c ≡ p) → (84 ≤ p → a + b + c ≡ 84) → Truncates i x w (2 ^ (2 * a)) → Truncates j y i (2 ^ (2 * b)) → Truncates k z j (2 ^ (2 * c)) → Truncates k (x || y || z) w (4 ^ p)
-  far_cut near beyond r s t =
-      let all = cut_twice j k (x || y) z w (2 ^ (2 * a) * 2 ^ (2 * b)) (2 ^ (2 * c)) (cut_twice i j x y w (2 ^ (2 * a)) (2 ^ (2 * b)) r s) t in
-      elim (lt_or_le 84 p) [
-        | inr h ↦ subst (Truncates k (x || y || z) w) (three_cuts a b c p (near h)) all
-        | inl h ↦
-            let l : 4 ^ 84 ≤ 4 ^ p = let g : 84 ≤ p = omega arith in pow-le-pow_right {n = 4} (omega arith) g in
-            below_one k (x || y || z) w (4 ^ 84) (4 ^ p) W l (subst (Truncates k (x || y || z) w) (three_cuts a b c 84 (beyond (omega arith))) all)
-      ]
+pub far_cut : (w p a b c k : ℕ) (z : Bool) → w < 2 ^ 168 → (p ≤ 84 → a + b + c ≡ p) → (84 ≤ p → a + b + c ≡ 84) → Truncates k z w (2 ^ (2 * a) * 2 ^ (2 * b) * 2 ^ (2 * c)) → Truncates k z w (4 ^ p)
+far_cut w p a b c k z W near beyond t =
+    elim (lt_or_le 84 p) [
+      | inr h ↦ subst (Truncates k z w) (three_cuts a b c p (near h)) t
+      | inl h ↦
+          let l : 4 ^ 84 ≤ 4 ^ p = let g : 84 ≤ p = omega arith in pow-le-pow_right {n = 4} (omega arith) g in
+          below_one k z w (4 ^ 84) (4 ^ p) W l (subst (Truncates k z w) (three_cuts a b c 84 (beyond (omega arith))) t)
+    ]

@@ -3,11 +3,12 @@
 //!
 //! A significand of 53 bits is two parts of at most 27, so a product of parts fits one word, and so does
 //! any sum of a few limbs of 56 bits.
-ghost use Rattle.std.specs.Prelude.{◌≡◌, ◌+◌, ◌*◌, ◌%◌, ◌^◌, ◌<◌, ◌≤◌, not, ◌==◌};
+ghost use Rattle.std.specs.Prelude.{◌≡◌, ℕ, ◌+◌, ◌*◌, ◌%◌, ◌^◌, ◌<◌, ◌≤◌, not, ◌==◌};
 ghost use Rattle.radicand.specs.Limbs.{units};
 ghost use Rattle.radicand.specs.Truncation.{Truncates};
 
 use crate::wide::{Truncated, Wide};
+use std::ops::{Add, Sub};
 
 const PART: u64 = 1 << 27;
 
@@ -32,63 +33,99 @@ pub fn squared(m: u64) -> Wide
 }
 
 /// The sum, with its carries, for a caller who knows that the limbs hold it.
-pub fn plus(a: Wide, b: Wide) -> Wide
-    requires { units a + units b < 2 ^ 168 }
-    ensures { units result ≡ units a + units b }
-{
-    let part = a.part + b.part;
-    let low = a.low + b.low + part / LIMB;
-    let high = a.high + b.high + low / LIMB;
-    Wide {
-        high,
-        low: low % LIMB,
-        part: part % LIMB,
+impl Add for Wide {
+    type Output = Wide;
+
+    ghost can_add = { λ a b. units a + units b < 2 ^ 168 };
+
+    ghost add_gives = { λ a b r. units r ≡ units a + units b };
+
+    fn add(self, rhs: Wide) -> Wide {
+        let part = self.part + rhs.part;
+        let low = self.low + rhs.low + part / LIMB;
+        let high = self.high + rhs.high + low / LIMB;
+        Wide {
+            high,
+            low: low % LIMB,
+            part: part % LIMB,
+        }
     }
 }
 
-/// The sum of a whole number of units and one that may be cut: cut where that one is.
-pub fn plus_cut(whole: Wide, number: Truncated) -> Truncated
-    requires { units whole + units number.wide < 2 ^ 168 }
-    ensures sum { units result.wide ≡ units whole + units number.wide }
-    ensures cut { result.cut ≡ number.cut }
-{
-    Truncated {
-        wide: plus(whole, number.wide),
-        cut: number.cut,
+/// The difference, with its borrows, for a caller who knows that what is taken away is not the larger.
+impl Sub for Wide {
+    type Output = Wide;
+
+    ghost can_sub = { λ a b. units b ≤ units a };
+
+    ghost sub_gives = { λ a b r. units r + units b ≡ units a };
+
+    fn sub(self, rhs: Wide) -> Wide {
+        let part = self.part + LIMB - rhs.part;
+        let low = self.low + LIMB - rhs.low - (1 - part / LIMB);
+        let high = self.high - rhs.high - (1 - low / LIMB);
+        Wide {
+            high,
+            low: low % LIMB,
+            part: part % LIMB,
+        }
     }
 }
 
-/// The difference, with its borrows, for a caller who knows that `b` is not the larger.
-pub fn minus(a: Wide, b: Wide) -> Wide
-    requires { units b ≤ units a }
-    ensures { units result + units b ≡ units a }
-{
-    let part = a.part + LIMB - b.part;
-    let low = a.low + LIMB - b.low - (1 - part / LIMB);
-    let high = a.high - b.high - (1 - low / LIMB);
-    Wide {
-        high,
-        low: low % LIMB,
-        part: part % LIMB,
+impl Wide {
+    /// The number over `2^by`, cut to whole units; `by` is at most a limb.
+    #[tactic(auto, using(crate::proofs::Shifts::limb))]
+    pub fn lower(self, by: u32) -> Truncated
+        requires { by ≤ 56 }
+        ensures { Truncates (units result.wide) result.cut (units self) (2 ^ by) }
+    {
+        let below = 1 << by;
+        let above = 1 << (56 - by);
+        let over = Wide {
+            high: self.high / below,
+            low: self.high % below * above + self.low / below,
+            part: self.low % below * above + self.part / below,
+        };
+        Truncated {
+            wide: over,
+            cut: has_rest(self.part, below),
+        }
+    }
+
+    /// The number over `4^places`, cut to whole units, for any `places`: beyond 84 no unit is left.
+    pub fn far(self, places: u32) -> Truncated
+        ensures { Truncates (units result.wide) result.cut (units self) (4 ^ places) }
+    {
+        self.lower(2 * places.min(28))
+            .lower(2 * places.saturating_sub(28).min(28))
+            .lower(2 * places.saturating_sub(56).min(28))
+    }
+
+    /// The sum of a whole number of units and one that may be cut: cut where that one is.
+    pub fn plus_cut(self, number: Truncated) -> Truncated
+        requires { units self + units number.wide < 2 ^ 168 }
+        ensures sum { units result.wide ≡ units self + units number.wide }
+        ensures cut { result.cut ≡ number.cut }
+    {
+        Truncated {
+            wide: self + number.wide,
+            cut: number.cut,
+        }
     }
 }
 
-/// The number over `2^by`, cut to whole units; `by` is at most a limb.
-#[tactic(auto, using(crate::proofs::Shifts::limb))]
-pub fn lower(wide: Wide, by: u32) -> Truncated
-    requires { by ≤ 56 }
-    ensures { Truncates (units result.wide) result.cut (units wide) (2 ^ by) }
-{
-    let below = 1 << by;
-    let above = 1 << (56 - by);
-    let over = Wide {
-        high: wide.high / below,
-        low: wide.high % below * above + wide.low / below,
-        part: wide.low % below * above + wide.part / below,
-    };
-    Truncated {
-        wide: over,
-        cut: has_rest(wide.part, below),
+impl Truncated {
+    /// The number over `2^by`, cut once more to whole units; `by` is at most a limb.
+    pub fn lower(self, by: u32) -> Truncated
+        requires { by ≤ 56 }
+        ensures over { (v m : ℕ) → Truncates (units self.wide) self.cut v m → Truncates (units result.wide) result.cut v (m * 2 ^ by) }
+        ensures bound { units result.wide * 2 ^ by ≤ units self.wide }
+    {
+        let over = self.wide.lower(by);
+        Truncated {
+            wide: over.wide,
+            cut: self.cut | over.cut,
+        }
     }
 }
 
@@ -98,17 +135,4 @@ fn has_rest(limb: u64, below: u64) -> bool
     ensures { result ≡ not (limb % below == 0) }
 {
     limb % below != 0
-}
-
-/// The number over `4^places`, cut to whole units, for any `places`: beyond 84 no unit is left.
-pub fn far(wide: Wide, places: u32) -> Truncated
-    ensures { Truncates (units result.wide) result.cut (units wide) (4 ^ places) }
-{
-    let first = lower(wide, 2 * places.min(28));
-    let second = lower(first.wide, 2 * places.saturating_sub(28).min(28));
-    let third = lower(second.wide, 2 * places.saturating_sub(56).min(28));
-    Truncated {
-        wide: third.wide,
-        cut: first.cut | second.cut | third.cut,
-    }
 }

@@ -6,13 +6,15 @@
 //! of one that lies farther, all that is lost is told by one bit.
 ghost use Rattle.std.specs.Prelude.{◌≡◌, ℕ, ◌+◌, ◌*◌, ◌^◌, ◌<◌, ◌≤◌};
 
-use crate::limbs::{far, lower, minus, plus, plus_cut, squared};
+use crate::limbs::squared;
 use crate::scale::scaled;
 use crate::wide::{Truncated, Wide};
 use crate::words::Radicand;
 
 /// A side that is not the largest.
-#[derive(Clone, Copy)]
+// No side of the crate `head`: a radicand asks less, since a significand need not have all 53 bits, and a third
+// side may lie at any distance.
+#[derive(Clone, Copy, PartialEq, Eq, Debug)]
 pub struct Side {
     pub significand: u64,
     /// how many binary places it lies below the largest side
@@ -21,7 +23,7 @@ pub struct Side {
 }
 
 /// The largest side and a near one, which lies at most 28 places below.
-#[derive(Clone, Copy)]
+#[derive(Clone, Copy, PartialEq, Eq, Debug)]
 pub struct NearSides {
     /// the significand of the largest side
     pub largest: u64,
@@ -31,7 +33,7 @@ pub struct NearSides {
 }
 
 /// The scale of a head: how often its word is to be quartered.
-#[derive(Clone, Copy)]
+#[derive(Clone, Copy, PartialEq, Eq, Debug)]
 pub struct HeadScale {
     pub places: u32,
     ghost least: { 30 ≤ places },
@@ -48,7 +50,7 @@ impl NearSides {
         requires { scale.places ≤ 31 }
         ensures { Stands result (head_scaled (two_squares self.largest self.other.significand self.other.below) scale.places) (denominator self.other.below) }
     {
-        scaled(self.two_squares(), scale.places)
+        scaled(self.two_squares(), scale)
     }
 
     /// The radicand of the two sides and a third at any distance, in the scale of a head of 30 or 31 places.
@@ -60,7 +62,7 @@ impl NearSides {
         if third.significand == 0 {
             return self.sum_of_two(scale);
         }
-        scaled(self.three_squares(third), scale.places)
+        scaled(self.three_squares(third), scale)
     }
 
     /// The radicand of a leg, for a caller whose largest side is the hypotenuse and longer than the other
@@ -70,7 +72,7 @@ impl NearSides {
         requires held { head_scaled (leg_square self.largest self.other.significand self.other.below) scale.places < 2 ^ 130 * denominator self.other.below }
         ensures { Stands result (head_scaled (leg_square self.largest self.other.significand self.other.below) scale.places) (denominator self.other.below) }
     {
-        scaled(self.leg_square(), scale.places)
+        scaled(self.leg_square(), scale)
     }
 
     // The sum of the squares of the two sides.
@@ -89,8 +91,8 @@ impl NearSides {
         ensures value { Counts result (three_squares self.largest self.other.significand self.other.below third.significand third.below) (self.other.below + third.below) }
         ensures held { (places : ℕ) → places ≤ 31 → Held result places }
     {
-        let square = far(squared(third.significand), third.below);
-        plus_cut(self.near_sum(), square)
+        let square = squared(third.significand).far(third.below);
+        self.near_sum().plus_cut(square)
     }
 
     // The square of the hypotenuse less that of the leg.
@@ -100,7 +102,7 @@ impl NearSides {
         ensures held { (places : ℕ) → places ≤ 57 → head_scaled (leg_square self.largest self.other.significand self.other.below) places < 2 ^ 130 * denominator self.other.below → Held result places }
     {
         Truncated {
-            wide: minus(squared(self.largest), self.near_square()),
+            wide: squared(self.largest) - self.near_square(),
             cut: false,
         }
     }
@@ -110,21 +112,22 @@ impl NearSides {
         ensures value { units result * 4 ^ self.other.below ≡ two_squares self.largest self.other.significand self.other.below * 2 ^ 56 }
         ensures bound { units result < 2 ^ 163 }
     {
-        plus(squared(self.largest), self.near_square())
+        squared(self.largest) + self.near_square()
     }
 
     // The square of the near side, which is whole in units.
     fn near_square(self) -> Wide
         ensures { units result * 4 ^ self.other.below ≡ self.other.significand * self.other.significand * 2 ^ 56 }
     {
-        lower(squared(self.other.significand), 2 * self.other.below).wide
+        squared(self.other.significand)
+            .lower(2 * self.other.below)
+            .wide
     }
 }
 
 #[cfg(test)]
 mod tests {
     use super::*;
-    use std::test::Fail;
 
     const ONE: u64 = 1 << 52;
 
@@ -134,6 +137,15 @@ mod tests {
     };
 
     const SCALE: HeadScale = HeadScale { places: 31 };
+
+    fn radicand(hi: u64, lo: u64, cut: bool) -> Radicand {
+        Radicand {
+            hi,
+            lo,
+            bits: 0,
+            cut,
+        }
+    }
 
     fn beside_one(other: Side) -> NearSides
         requires { other.below ≤ 28 }
@@ -148,26 +160,23 @@ mod tests {
     #[test]
     fn two_equal_sides(rt: HostRuntime) {
         // 2 * 4^53 is the radicand of 1 and 1 at 31 places
-        let radicand = beside_one(SIDE).sum_of_two(SCALE);
-        assert_eq!(rt; radicand.hi, 1 << 43);
-        assert_eq!(rt; radicand.lo, 0);
-        assert_eq!(rt; radicand.bits, 0);
-        assert!(rt; !radicand.cut);
+        assert_eq!(rt;
+            beside_one(SIDE).sum_of_two(SCALE),
+            radicand(1 << 43, 0, false)
+        );
     }
 
     #[test]
-    fn the_leg_of_five_and_four(rt: HostRuntime) -> Result<(), Fail> {
+    fn the_leg_of_five_and_four(rt: HostRuntime) {
         // 9 / 16 in the scale of the hypotenuse, so (3 * 2^52)^2 at 32 places
         let sides = NearSides {
             largest: 5 << 50,
             other: SIDE,
         };
-        let radicand = sides.difference(HeadScale { places: 32 });
-        assert_eq!(rt; radicand.hi, 9 << 40);
-        assert_eq!(rt; radicand.lo, 0);
-        assert_eq!(rt; radicand.bits, 0);
-        assert!(rt; !radicand.cut);
-        Ok(())
+        assert_eq!(rt;
+            sides.difference(HeadScale { places: 32 }),
+            radicand(9 << 40, 0, false)
+        );
     }
 
     #[test]
@@ -176,11 +185,10 @@ mod tests {
             significand: 2 * ONE - 1,
             below: 28,
         };
-        let radicand = beside_one(edge).sum_of_two(SCALE);
-        assert_eq!(rt; radicand.hi, 1 << 42);
-        assert_eq!(rt; radicand.lo, ONE - 1);
-        assert_eq!(rt; radicand.bits, 0);
-        assert!(rt; radicand.cut);
+        assert_eq!(rt;
+            beside_one(edge).sum_of_two(SCALE),
+            radicand(1 << 42, ONE - 1, true)
+        );
     }
 
     #[test]
@@ -189,10 +197,9 @@ mod tests {
             significand: ONE,
             below: u32::MAX,
         };
-        let radicand = beside_one(SIDE).sum_of_three(far, SCALE);
-        assert_eq!(rt; radicand.hi, 1 << 43);
-        assert_eq!(rt; radicand.lo, 0);
-        assert_eq!(rt; radicand.bits, 0);
-        assert!(rt; radicand.cut);
+        assert_eq!(rt;
+            beside_one(SIDE).sum_of_three(far, SCALE),
+            radicand(1 << 43, 0, true)
+        );
     }
 }

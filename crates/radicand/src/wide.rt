@@ -2,7 +2,7 @@
 ghost use Rattle.std.specs.Prelude.{◌^◌, ◌<◌};
 
 /// A number with a fraction of one limb: `high * 2^112 + low * 2^56 + part` units of `2^-56`.
-#[derive(Clone, Copy)]
+#[derive(Clone, Copy, PartialEq, Eq, Debug)]
 pub struct Wide {
     pub high: u64,
     pub low: u64,
@@ -11,7 +11,7 @@ pub struct Wide {
 }
 
 /// A number after a cut, and whether something was cut off.
-#[derive(Clone, Copy)]
+#[derive(Clone, Copy, PartialEq, Eq, Debug)]
 pub struct Truncated {
     pub wide: Wide,
     pub cut: bool,

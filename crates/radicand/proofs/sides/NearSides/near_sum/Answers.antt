@@ -3,8 +3,8 @@ use Rattle.radicand.specs.Sides.{two_squares}
 use Rattle.radicand.proofs.SideSquares.{near_bound}
 use Rattle.radicand.proofs.sides.NearSides.near_sum.Goals as goal
 
-pub plus-requires : goal.plus-requires
-plus-requires c =
+pub add-requires : goal.add-requires
+add-requires c =
     let s = c.args.self in
     omega (arith, near_bound s.largest s.other.significand s.other.below _ _ s.short s.other.short c.squared.ensures c.near_square.ensures)
 
@@ -14,6 +14,6 @@ returns c =
     let s = c.args.self in
     let p = 4 ^ s.other.below in
     record {
-      value = omega (arith, c.near_square.ensures, ap (λ (x : ℕ). x * p) c.plus.ensures, ap (λ (x : ℕ). x * p) c.squared.ensures);
-      bound = omega (arith, c.plus.ensures, near_bound s.largest s.other.significand s.other.below _ _ s.short s.other.short c.squared.ensures c.near_square.ensures);
+      value = omega (arith, c.near_square.ensures, ap (λ (x : ℕ). x * p) c.add.ensures, ap (λ (x : ℕ). x * p) c.squared.ensures);
+      bound = omega (arith, c.add.ensures, near_bound s.largest s.other.significand s.other.below _ _ s.short s.other.short c.squared.ensures c.near_square.ensures);
     }
