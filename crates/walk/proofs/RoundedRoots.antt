@@ -104,12 +104,12 @@ module _ (p : ℕ) (one : 1 ≤ p) (short : p ≤ 53) where
       kept u h (omega (arith, significand_most p n e u k h))
 
 -- the steps of the code, joined
-pub rounds_to : (radicand : Radicand) (t q p least d k s : ℕ) (exact : Bool) (l : Location) → Longer radicand t q → 1 ≤ p → p ≤ 53
+pub rounds_to : (radicand : Radicand) (t q p least d k s : ℕ) (exact up : Bool) (l : Location) → Longer radicand t q → 1 ≤ p → p ≤ 53
     → d ≡ max (bits t - p) least → exact ≡ (eqb q 0 && not radicand.cut) → ((n e : ℕ) → FloorToPlaces n e d t exact → Located n e l)
-    → k ≡ nearest_choice l → s ≡ cond (eqb k (1 * 2 ^ p % 2 ^ 64)) (1 * 2 ^ p % 2 ^ 64 / 2) k
-    → (n e v m : ℕ) → Stands radicand v m → Scaled n e v m d least → Length p n s (after_carry (eqb k (1 * 2 ^ p % 2 ^ 64)) e)
-rounds_to radicand t q p least d k s exact l long one short drops test lies choice carry n e v m stands scaled =
+    → k ≡ nearest_choice l → s ≡ cond (eqb k (1 * 2 ^ p % 2 ^ 64)) (1 * 2 ^ p % 2 ^ 64 / 2) k → up ≡ eqb k (1 * 2 ^ p % 2 ^ 64)
+    → (n e v m : ℕ) → Stands radicand v m → Scaled n e v m d least → Length p n s (after_carry up e)
+rounds_to radicand t q p least d k s exact up l long one short drops test lies choice half at_limit n e v m stands scaled =
     let f = floor_to_places radicand n e d v m t q exact stands scaled.scale long.square long.small test in
     let u = ulp radicand t q long p least d short drops n e exact f scaled.least_exponent in
     let h = subst (NearestWhole n e) (sym choice) (choice_is_nearest n e l (lies n e f)) in
-    subst (λ (x : ℕ). Length p n x (after_carry (eqb k (1 * 2 ^ p % 2 ^ 64)) e)) (sym carry) (length_by p one short n e k _ u h refl)
+    rw (half, at_limit) (length_by p one short n e k _ u h refl)

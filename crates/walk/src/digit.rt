@@ -4,7 +4,7 @@ ghost use Rattle.exact.specs.Root.{isqrt};
 ghost use Rattle.walk.specs.Digit.{with_bits};
 
 /// A floor root with what its square leaves of the radicand.
-#[derive(Clone, Copy)]
+#[derive(Clone, Copy, PartialEq, Eq, Debug)]
 pub struct Rooted {
     pub root: u64,
     pub residual: u64,

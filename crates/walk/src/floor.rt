@@ -2,7 +2,7 @@
 //!
 //! A guess that lies at most 132 from the root has a square less than `2^63` from the radicand. So
 //! the difference of the two, the residual, can be taken modulo `2^64` and read as signed.
-ghost use Rattle.std.specs.Prelude.{◌≡◌, ◌+◌, ◌-◌, ◌*◌, ◌^◌, ◌<◌, pos, ◌+ℤ◌, ◌<ℤ◌, Decides};
+ghost use Rattle.std.specs.Prelude.{◌≡◌, ◌+◌, ◌-◌, ◌*◌, ◌^◌, ◌<◌, pos, ◌+ℤ◌, ◌<ℤ◌, IsTrue, ◌↔◌};
 ghost use Rattle.exact.specs.Root.{isqrt};
 ghost use Rattle.radicand.specs.Stands.{radicand_floor};
 ghost use Rattle.walk.specs.Walk.{distance, Walkable};
@@ -11,7 +11,7 @@ use crate::digit::Rooted;
 use radicand::words::Radicand;
 
 /// A floor root with its residual, and the steps that led to it.
-#[derive(Clone, Copy)]
+#[derive(Clone, Copy, PartialEq, Eq, Debug)]
 pub struct Walked {
     pub floor: Rooted,
     pub count: u64,
@@ -62,7 +62,7 @@ struct Place {
 impl Place {
     // Whether the guess lies above the root: its square is above the radicand.
     fn is_too_high(self) -> bool
-        ensures { Decides result (self.residual <ℤ pos 0) }
+        ensures { IsTrue result ↔ (self.residual <ℤ pos 0) }
     {
         self.residual < 0
     }
@@ -70,7 +70,7 @@ impl Place {
     // Whether the next number is not above the root: its square takes `2 * guess + 1` more.
     fn is_too_low(self) -> bool
         requires { self.guess < 2 ^ 55 }
-        ensures { Decides result (pos (2 * self.guess) <ℤ self.residual) }
+        ensures { IsTrue result ↔ (pos (2 * self.guess) <ℤ self.residual) }
     {
         self.residual > 2 * self.guess as i64
     }
@@ -106,10 +106,9 @@ impl Place {
 #[cfg(test)]
 mod tests {
     use super::*;
-    use std::test::Fail;
 
     #[test]
-    fn one_bit_less(rt: HostRuntime) -> Result<(), Fail> {
+    fn one_bit_less(rt: HostRuntime) {
         // the floor root of 2^106 - 1 is 2^53 - 1
         let radicand = Radicand {
             hi: (1 << 42) - 1,
@@ -121,11 +120,10 @@ mod tests {
         assert_eq!(rt; walked.floor.root, (1 << 53) - 1);
         assert_eq!(rt; walked.floor.residual, (1 << 54) - 2);
         assert_eq!(rt; walked.count, 132);
-        Ok(())
     }
 
     #[test]
-    fn one_bit_more(rt: HostRuntime) -> Result<(), Fail> {
+    fn one_bit_more(rt: HostRuntime) {
         // the root of 2^108 is 2^54
         let radicand = Radicand {
             hi: 1 << 44,
@@ -137,6 +135,5 @@ mod tests {
         assert_eq!(rt; walked.floor.root, 1 << 54);
         assert_eq!(rt; walked.floor.residual, 0);
         assert_eq!(rt; walked.count, 100);
-        Ok(())
     }
 }

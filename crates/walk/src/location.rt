@@ -5,6 +5,8 @@
 ghost use Rattle.std.specs.Prelude.{◌≡◌, ℕ, ◌/◌, ◌^◌, ◌<◌, ◌≤◌};
 ghost use Rattle.walk.specs.Location.{FloorToPlaces, Located, side_of_half, located_at, nearest_choice, ChoiceIsNearest};
 
+use std::cmp::Ordering;
+
 /// The side of the middle between a whole number and the next.
 #[derive(Clone, Copy, PartialEq, Eq, Debug)]
 pub enum Half {
@@ -50,12 +52,10 @@ fn split(root: u64, exact: bool, half: u64) -> Location
 fn side(tail: u64, half: u64, exact: bool) -> Half
     ensures { result ≡ side_of_half tail half exact }
 {
-    if tail < half {
-        Half::Below
-    } else if tail == half && exact {
-        Half::At
-    } else {
-        Half::Above
+    match tail.cmp(&half) {
+        Ordering::Less => Half::Below,
+        Ordering::Equal if exact => Half::At,
+        _ => Half::Above,
     }
 }
 

@@ -40,12 +40,12 @@ pub fn rounded_root(radicand: Radicand, proposal: u64, precision: u32, least: u3
     let longer = walked.floor.next(radicand.bits);
     let dropped = bits_to_drop(longer.root, precision, least);
     let exact = is_exact(longer.residual, radicand.cut);
-    let significand = nearest(located(longer.root, exact, dropped));
-    let limit = 1 << precision;
+    let nearest = nearest(located(longer.root, exact, dropped));
+    let (significand, carried) = with_carry(nearest, 1 << precision);
     Rounded {
-        significand: without_carry(significand, limit),
+        significand,
         dropped,
-        carried: significand == limit,
+        carried,
         count: walked.count,
     }
 }
@@ -66,21 +66,22 @@ fn is_exact(residual: u64, cut: bool) -> bool
     residual == 0 && !cut
 }
 
-// A significand that may have reached the limit, and is then half of it, one exponent up.
-fn without_carry(significand: u64, limit: u64) -> u64
-    ensures { result ≡ (if nat_eq significand limit then limit / 2 else significand) }
+// A significand that may have reached the limit, and is then half of it, one exponent up; and whether it
+// was so.
+fn with_carry(significand: u64, limit: u64) -> (u64, bool)
+    ensures significand { result.0 ≡ (if nat_eq significand limit then limit / 2 else significand) }
+    ensures carried { result.1 ≡ nat_eq significand limit }
 {
     if significand == limit {
-        limit / 2
+        (limit / 2, true)
     } else {
-        significand
+        (significand, false)
     }
 }
 
 #[cfg(test)]
 mod tests {
     use super::*;
-    use std::test::Fail;
 
     fn rounded(significand: u64, dropped: u32, carried: bool, count: u64) -> Rounded {
         Rounded {
@@ -92,7 +93,7 @@ mod tests {
     }
 
     #[test]
-    fn ties_go_to_even(rt: HostRuntime) -> Result<(), Fail> {
+    fn ties_go_to_even(rt: HostRuntime) {
         // the root 2^53 + 1 lies in the middle of 2^53 and 2^53 + 2
         let tie = Radicand {
             hi: 1 << 42,
@@ -115,11 +116,10 @@ mod tests {
             rounded_root(next, 1 << 53, 53, 0),
             rounded((1 << 52) + 2, 2, false, 3)
         );
-        Ok(())
     }
 
     #[test]
-    fn what_was_cut_turns_a_tie(rt: HostRuntime) -> Result<(), Fail> {
+    fn what_was_cut_turns_a_tie(rt: HostRuntime) {
         let above = Radicand {
             hi: 1 << 42,
             lo: (1 << 54) + 1,
@@ -130,11 +130,10 @@ mod tests {
             rounded_root(above, 1 << 53, 53, 0),
             rounded((1 << 52) + 1, 2, false, 1)
         );
-        Ok(())
     }
 
     #[test]
-    fn carries(rt: HostRuntime) -> Result<(), Fail> {
+    fn carries(rt: HostRuntime) {
         // the root 2^54 - 1 lies in the middle of 2^54 - 2 and 2^54
         let last = Radicand {
             hi: (1 << 44) - 1,
@@ -146,11 +145,10 @@ mod tests {
             rounded_root(last, (1 << 54) - 1, 53, 0),
             rounded(1 << 52, 2, true, 0)
         );
-        Ok(())
     }
 
     #[test]
-    fn least_bits(rt: HostRuntime) -> Result<(), Fail> {
+    fn least_bits(rt: HostRuntime) {
         // the root 2^53, that is 2^54 with one digit more, at units of its double and of more
         let power = Radicand {
             hi: 1 << 42,
@@ -170,6 +168,5 @@ mod tests {
             rounded_root(power, 1 << 53, 53, 4000),
             rounded(0, 4000, false, 0)
         );
-        Ok(())
     }
 }

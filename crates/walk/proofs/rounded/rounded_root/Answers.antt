@@ -12,8 +12,8 @@ located-requires c =
       dropped = drops_one c.args.radicand t.root t.residual l c.args.precision c.args.least c.bits_to_drop-dropped.result c.requires.precision.1 c.bits_to_drop-dropped.ensures;
     }
 
-pub nearest-significand-requires : goal.nearest-significand-requires
-nearest-significand-requires c =
+pub nearest-nearest-requires : goal.nearest-nearest-requires
+nearest-nearest-requires c =
     let w = c.walk-walked in
     let t = c.next-longer.result in
     let l = longer c.args.radicand c.args.proposal w.result.floor t c.requires.proposal c.requires.bits w.ensures.root w.ensures.residual c.next-longer.ensures.residual in
@@ -28,6 +28,6 @@ returns c =
       count = omega (arith, w.ensures);
       dropped = drops_are c.args.radicand t.root t.residual l c.args.precision c.args.least c.bits_to_drop-dropped.result c.requires.precision.1 c.bits_to_drop-dropped.ensures;
       length =
-          rounds_to c.args.radicand t.root t.residual c.args.precision c.args.least c.bits_to_drop-dropped.result c.nearest-significand.result c.without_carry.result c.is_exact-exact.result c.located.result
-          l c.requires.precision.0 c.requires.precision.1 c.bits_to_drop-dropped.ensures c.is_exact-exact.ensures c.located.ensures.located c.nearest-significand.ensures c.without_carry.ensures;
+          rounds_to c.args.radicand t.root t.residual c.args.precision c.args.least c.bits_to_drop-dropped.result c.nearest-nearest.result c.with_carry-significand.result.0 c.is_exact-exact.result c.with_carry-significand.result.1 c.located.result
+          l c.requires.precision.0 c.requires.precision.1 c.bits_to_drop-dropped.ensures c.is_exact-exact.ensures c.located.ensures.located c.nearest-nearest.ensures c.with_carry-significand.ensures.significand c.with_carry-significand.ensures.carried;
     }
