@@ -31,42 +31,42 @@ module _ (h : Float) (n largest : ℕ) (p : Posed) (poses : Poses h n largest p)
   M = 4 ^ (size largest - 1)
 
   abbrev X : ℕ
-  X = n * 4 ^ (22 + p.places)
+  X = n * 4 ^ (22 + p.head.places)
 
   -- the words are the whole part of the radicand in the word's scale
   floor_is : X / M ≡ radicand_floor p.radicand
   floor_is =
       let s = poses.stands in
-      let e : n * 4 ^ (23 + p.places) ≡ 4 * X =
-      ap (λ (y : ℕ). n * y) (ap (λ (y : ℕ). 4 ^ y) {x = 23 + p.places} {y = 1 + (22 + p.places)} (omega arith) ∙ pow-add 4 1 (22 + p.places)) ∙ omega arith in
+      let e : n * 4 ^ (23 + p.head.places) ≡ 4 * X =
+      ap (λ (y : ℕ). n * y) (ap (λ (y : ℕ). 4 ^ y) {x = 23 + p.head.places} {y = 1 + (22 + p.head.places)} (omega arith) ∙ pow-add 4 1 (22 + p.head.places)) ∙ omega arith in
       quarter_part X M (radicand_floor p.radicand) p.radicand.bits s.positive s.bits_short (ap (λ (y : ℕ). y / M) (sym e) ∙ s.floor)
 
-  pub root_is : isqrt (radicand_floor p.radicand) ≡ floor_root_at n largest p.places
+  pub root_is : isqrt (radicand_floor p.radicand) ≡ floor_root_at n largest p.head.places
   unfolding floor_root_at
   root_is = ap isqrt (sym floor_is)
 
   pub floor_root : FloorRootOf X M (isqrt (radicand_floor p.radicand))
   floor_root = subst (λ (y : ℕ). FloorRootOf X M (isqrt y)) floor_is (floor_of X M poses.stands.positive)
 
-  pub word : Word p.word
+  pub word : Word p.head.word
   word = record { least = poses.heads.least; most = poses.heads.most }
 
   module _ (source : Source) (sound : Sound source) where
     -- a proposal is at most 2 ^ grade from the word's root, and that at most four from the floor root
-    pub within : distance (source.proposal p.word) (isqrt (radicand_floor p.radicand)) ≤ 2 ^ source.grade + 4
+    pub within : distance (source.proposal p.head.word) (isqrt (radicand_floor p.radicand)) ≤ 2 ^ source.grade + 4
     within =
-        let s = isqrt (p.word * 2 ^ 44) in
-        let a = sound.near p.word s word (isqrt_is (p.word * 2 ^ 44)) in
-        let b = poses.near s (isqrt (radicand_floor p.radicand)) (isqrt_is (p.word * 2 ^ 44)) floor_root in
+        let s = isqrt (p.head.word * 2 ^ 44) in
+        let a = sound.near p.head.word s word (isqrt_is (p.head.word * 2 ^ 44)) in
+        let b = poses.near s (isqrt (radicand_floor p.radicand)) (isqrt_is (p.head.word * 2 ^ 44)) floor_root in
         omega (arith, a.above, a.below, b.above, b.below)
 
-    pub walkable : source.grade ≤ 7 → Walkable p.radicand (source.proposal p.word)
-    walkable c = record { least = sound.least p.word word; most = sound.most p.word word; near = omega (arith, within, two_le source.grade 7 c) }
+    pub walkable : source.grade ≤ 7 → Walkable p.radicand (source.proposal p.head.word)
+    walkable c = record { least = sound.least p.head.word word; most = sound.most p.head.word word; near = omega (arith, within, two_le source.grade 7 c) }
 
-    pub count_is : distance (source.proposal p.word) (isqrt (radicand_floor p.radicand)) ≡ walk_count source h n largest
+    pub count_is : distance (source.proposal p.head.word) (isqrt (radicand_floor p.radicand)) ≡ walk_count source h n largest
     unfolding walk_count
     count_is =
-        ap (distance (source.proposal p.word)) root_is
+        ap (distance (source.proposal p.head.word)) root_is
         ∙ (λ i. distance (source.proposal (sym poses.word_is i)) (floor_root_at n largest (sym poses.places_are i)))
 
 -- The bits of the longer root of words that a proposal is near to.
@@ -106,14 +106,14 @@ module _ (r : Radicand) (g : ℕ) (w : Walkable r g) (short : r.bits < 4) where
 
 -- The exponent: places of the largest side, of the scale and of what is dropped.
 
-module _ (h : Float) (n largest : ℕ) (p : Posed) (poses : Poses h n largest p) (dropped e : ℕ) (enough : 24 + p.places ≤ p.bits + dropped) (is : e ≡ p.bits + dropped - (24 + p.places)) where
-  pub scaled_as : (dropped ≡ 24 + p.places - p.bits → e ≡ 0) → Scaled n e (n * 4 ^ (23 + p.places)) (4 ^ (size largest - 1)) dropped (24 + p.places - p.bits)
+module _ (h : Float) (n largest : ℕ) (p : Posed) (poses : Poses h n largest p) (dropped e : ℕ) (enough : 24 + p.head.places ≤ p.bits + dropped) (is : e ≡ p.bits + dropped - (24 + p.head.places)) where
+  pub scaled_as : (dropped ≡ 24 + p.head.places - p.bits → e ≡ 0) → Scaled n e (n * 4 ^ (23 + p.head.places)) (4 ^ (size largest - 1)) dropped (24 + p.head.places - p.bits)
   scaled_as last =
       let b : p.bits ≡ size largest = poses.sized in
       let s : 1 ≤ p.bits = poses.some_bits in
-      let q : dropped + (size largest - 1) ≡ 23 + p.places + e = omega arith in
-      let f : 4 ^ dropped * 4 ^ (size largest - 1) ≡ 4 ^ (23 + p.places) * 4 ^ e = sym (pow-add 4 dropped (size largest - 1)) ∙ ap (λ (y : ℕ). 4 ^ y) q ∙ pow-add 4 (23 + p.places) e in
+      let q : dropped + (size largest - 1) ≡ 23 + p.head.places + e = omega arith in
+      let f : 4 ^ dropped * 4 ^ (size largest - 1) ≡ 4 ^ (23 + p.head.places) * 4 ^ e = sym (pow-add 4 dropped (size largest - 1)) ∙ ap (λ (y : ℕ). 4 ^ y) q ∙ pow-add 4 (23 + p.head.places) e in
       record {
-        scale = mul_assoc n (4 ^ dropped) (4 ^ (size largest - 1)) ∙ ap (λ (y : ℕ). n * y) f ∙ sym (mul_assoc n (4 ^ (23 + p.places)) (4 ^ e));
+        scale = mul_assoc n (4 ^ dropped) (4 ^ (size largest - 1)) ∙ ap (λ (y : ℕ). n * y) f ∙ sym (mul_assoc n (4 ^ (23 + p.head.places)) (4 ^ e));
         least_exponent = last;
       }

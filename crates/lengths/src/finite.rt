@@ -60,17 +60,13 @@ impl<F: NumberForm> SideReading<F> {
         ensures value { Value F.NumberForm.encoding.form result.significand result.exponent }
         ensures units { units result.significand result.exponent ≡ magnitude self.now.reading }
     {
-        let (significand, exponent) = match self.reading {
+        match self.reading {
             Reading::Finite {
                 significand,
                 exponent,
                 ..
-            } => (significand, exponent),
-            _ => (0, 0),
-        };
-        Magnitude {
-            significand,
-            exponent,
+            } => Magnitude::new(significand, exponent),
+            _ => Magnitude::new(0, 0),
         }
     }
 }

@@ -1,7 +1,8 @@
 //! The length of a call: plain cases first, then the root of the exact radicand.
 //!
 //! A hypotenuse over two sides is the resultant of these and a third side of no length.
-ghost use Rattle.std.specs.Prelude.{◌≡◌, ◌≤◌, [], ◌∷◌};
+ghost use Rattle.std.specs.Prelude.{◌≡◌, ◌≤◌, [], ◌∷◌, Some, None};
+ghost use Rattle.std.specs.ControlFlow.{MatchControlFlow};
 ghost use Rattle.lengths.specs.Asked.{sum_of, difference_of, asked};
 ghost use Rattle.lengths.specs.LengthOf.{length_of};
 ghost use Rattle.lengths.specs.Posed.{PosedUnlessPlain};
@@ -67,17 +68,13 @@ fn three_sides<F: NumberForm>(
 ) -> ControlFlow<F::Pattern, Posed>
     ensures { PosedUnlessPlain F.NumberForm.encoding (sum_of (x.reading ∷ y.reading ∷ z.reading ∷ [])) result }
 {
-    if let Some(pattern) = special_pattern::<F>(&[x.reading, y.reading, z.reading]) {
-        return ControlFlow::Break(pattern);
-    }
+    break_on(special_pattern::<F>(&[x.reading, y.reading, z.reading]))?;
     let sides = descending(x.finite().side, y.finite().side, z.finite().side);
     let longest = FiniteSide::<F> {
         side: sides.first,
         form: PhantomData,
     };
-    if let Some(pattern) = plain_sum(&longest, sides.second) {
-        return ControlFlow::Break(pattern);
-    }
+    break_on(plain_sum(&longest, sides.second))?;
     ControlFlow::Continue(pose_sum(sides))
 }
 
@@ -85,14 +82,19 @@ fn three_sides<F: NumberForm>(
 fn other_leg<F: NumberForm>(x: SideReading<F>, y: SideReading<F>) -> ControlFlow<F::Pattern, Posed>
     ensures { PosedUnlessPlain F.NumberForm.encoding (difference_of x.reading y.reading) result }
 {
+    break_on(special_leg(&x, &y))?;
     let hypotenuse = x.finite();
     let leg = y.finite().side;
-    let shorter = hypotenuse.side.is_shorter(leg);
-    if let Some(pattern) = special_leg::<F>(x.reading, y.reading, shorter) {
-        return ControlFlow::Break(pattern);
-    }
-    if let Some(pattern) = plain_leg(&hypotenuse, leg) {
-        return ControlFlow::Break(pattern);
-    }
+    break_on(plain_leg(&hypotenuse, leg))?;
     ControlFlow::Continue(pose_leg(hypotenuse.side, leg))
+}
+
+// Breaks off with an answer, and goes on without one.
+fn break_on<P>(answer: Option<P>) -> ControlFlow<P, ()>
+    ensures { MatchControlFlow result (λ _. answer ≡ None) (λ pattern. answer ≡ Some pattern) }
+{
+    match answer {
+        Some(pattern) => ControlFlow::Break(pattern),
+        None => ControlFlow::Continue(()),
+    }
 }

@@ -7,28 +7,25 @@ ghost use Rattle.triangle.specs.Answer.{special_pattern};
 ghost use Rattle.lengths.specs.Plain.{zero_pattern};
 ghost use Rattle.lengths.specs.Finite.{side_pattern};
 
-use crate::finite::FiniteSide;
+use crate::finite::{FiniteSide, SideReading};
 use exact::length::Magnitude;
 use forms::number_form::NumberForm;
-use forms::reading::Reading;
 use sides::side::Side;
 
 /// The pattern that answers for a leg where a side is no finite number, or the hypotenuse is the
 /// shorter side, and nothing else. A NaN comes first, then an infinite leg, then an infinite
 /// hypotenuse.
 pub fn special_leg<F: NumberForm>(
-    hypotenuse: Reading,
-    leg: Reading,
-    shorter: bool,
+    hypotenuse: &SideReading<F>,
+    leg: &SideReading<F>,
 ) -> Option<F::Pattern>
-    requires { shorter ≡ nat_lt (magnitude hypotenuse) (magnitude leg) }
-    ensures { result ≡ special_pattern F.NumberForm.encoding (leg_outcome hypotenuse leg) }
+    ensures { result ≡ special_pattern F.NumberForm.encoding (leg_outcome hypotenuse.now.reading leg.now.reading) }
 {
-    if hypotenuse.is_nan() || leg.is_nan() || leg.is_infinite() {
+    if hypotenuse.reading.is_nan() || leg.reading.is_nan() || leg.reading.is_infinite() {
         Some(F::quiet_nan())
-    } else if hypotenuse.is_infinite() {
+    } else if hypotenuse.reading.is_infinite() {
         Some(F::plus_infinity())
-    } else if shorter {
+    } else if hypotenuse.finite().side.is_shorter(leg.finite().side) {
         Some(F::quiet_nan())
     } else {
         None

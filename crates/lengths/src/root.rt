@@ -20,8 +20,8 @@ pub fn root_length<F: NumberForm, R: RootSource>(source: &R, posed: Posed) -> Me
     requires posed { PosedRoot posed }
     ensures { (h : Float) (n largest : ℕ) → Poses h n largest posed → result ≡ root_length F.NumberForm.encoding (R.RootSource.meaning source.now) h n largest }
 {
-    let proposal = proposal_for(source, posed.word);
-    let unit = 24 + posed.places;
+    let proposal = proposal_for(source, posed.head.word);
+    let unit = 24 + posed.head.places;
     let least = unit.saturating_sub(posed.bits);
     let rounded = rounded_root(posed.radicand, proposal, F::form().precision, least);
     let exponent = posed.bits + rounded.dropped - unit + u32::from(rounded.carried);
@@ -40,8 +40,5 @@ fn proposal_for<R: RootSource>(source: &R, word: u64) -> u64
     requires { 2 ^ 62 ≤ word }
     ensures { result ≡ (R.RootSource.meaning source.now).proposal word }
 {
-    let Some(proposal) = source.propose(word) else {
-        unreachable()
-    };
-    proposal
+    source.propose(word).unwrap()
 }

@@ -9,7 +9,7 @@ use head::word::Head;
 use radicand::sides::{NearSides, Side as LowerSide};
 
 /// The largest side, which has a length, and another that is not far.
-#[derive(Clone, Copy)]
+#[derive(Clone, Copy, PartialEq, Eq, Debug)]
 pub struct NearPair {
     pub largest: Side,
     pub other: Side,
@@ -81,8 +81,8 @@ impl NearPair {
 }
 
 impl Side {
-    /// The side by its place below the largest one.
-    pub fn below(self, largest: Side) -> LowerSide
+    // The side by its place below the largest one.
+    pub(crate) fn below(self, largest: Side) -> LowerSide
         requires { side_units self ≤ side_units largest }
         ensures significand { result.significand ≡ self.significand }
         ensures below { result.below ≡ largest.bits - self.bits }

@@ -22,7 +22,7 @@ impl Side {
     pub fn is_shorter(self, other: Side) -> bool
         ensures { result ≡ nat_lt (side_units self) (side_units other) }
     {
-        (self.bits, self.significand) < (other.bits, other.significand)
+        self.key() < other.key()
     }
 
     /// Whether this side is far beside the largest one: less than 2^-27 of it.
@@ -32,7 +32,14 @@ impl Side {
         if self.is_zero() {
             return !largest.is_zero();
         }
-        (self.bits + 27, self.significand) < (largest.bits, largest.significand)
+        (self.bits + 27, self.significand) < largest.key()
+    }
+
+    // What sides are in the order of.
+    fn key(self) -> (u32, u64)
+        ensures { result ≡ (self.bits, self.significand) }
+    {
+        (self.bits, self.significand)
     }
 }
 
@@ -42,7 +49,7 @@ pub fn descending(a: Side, b: Side, c: Side) -> Ordered
     ensures first { (result.first.magnitude ≡ a.magnitude) ⊎ ((result.first.magnitude ≡ b.magnitude) ⊎ (result.first.magnitude ≡ c.magnitude)) }
 {
     let mut sides = [a, b, c];
-    sides.sort_unstable_by_key(|side| Reverse((side.bits, side.significand)));
+    sides.sort_unstable_by_key(|side| Reverse(side.key()));
     let [first, second, third] = sides;
     Ordered {
         first,

@@ -5,7 +5,7 @@ ghost use Rattle.sides.specs.Order.{side_units};
 use crate::side::Side;
 
 /// Three sides, the longest first.
-#[derive(Clone, Copy)]
+#[derive(Clone, Copy, PartialEq, Eq, Debug)]
 pub struct Ordered {
     pub first: Side,
     pub second: Side,

@@ -58,8 +58,7 @@ fn with_head(largest: Side, head: Head, radicand: Radicand) -> Posed
     ensures { result ≡ posed_with largest.bits head radicand }
 {
     Posed {
-        word: head.word,
-        places: head.places,
+        head,
         radicand,
         bits: largest.bits,
     }

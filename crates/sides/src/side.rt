@@ -7,7 +7,7 @@ use exact::length::Magnitude;
 use head::side::full_length;
 
 /// A finite side: its magnitude, and the same brought to full length.
-#[derive(Clone, Copy)]
+#[derive(Clone, Copy, PartialEq, Eq, Debug)]
 pub struct Side {
     pub magnitude: Magnitude,
     /// the significand moved up to 53 bits; zero for a side of no length

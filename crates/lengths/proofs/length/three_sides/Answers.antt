@@ -16,15 +16,15 @@ by_longest g c s =
     let encoding = g.F.NumberForm.encoding in
     let o = c.descending-sides in
     let side = one_value encoding.form o.result.first.magnitude _ _ _ o.ensures.first c.finite.result.value c.finite-2.result.value c.finite-3.result.value in
-    three_plain encoding g.met.F.NumberForm.lawful _ _ _ o.result c.args.x.of_form c.args.y.of_form c.args.z.of_form side s (sym c.in_default.ensures) ∙ sym c.plain_sum.ensures
+    three_plain encoding g.met.F.NumberForm.lawful _ _ _ o.result c.args.x.of_form c.args.y.of_form c.args.z.of_form side s (sym c.special_pattern.ensures ∙ c.in_ok-break_on.ensures) ∙ sym c.plain_sum.ensures
 
-pub returns-in-Some-plain_sum : goal.returns-in-Some-plain_sum
-returns-in-Some-plain_sum g c =
-    let at = goal.at.returns-in-Some-plain_sum g c in
-    by_longest g at.After-plain_sum (sorted g at.After-descending-sides) ∙ c.in-Some-plain_sum.is
+pub returns-in_err-break_on-2 : goal.returns-in_err-break_on-2
+returns-in_err-break_on-2 g c =
+    let at = goal.at.returns-in_err-break_on-2 g c in
+    rw c.from_residual-in_err-break_on-2.ensures (by_longest g at.After-plain_sum (sorted g at.After-descending-sides) ∙ c.in_err-break_on-2.ensures)
 
 pub returns : goal.returns
 returns g c =
     let at = goal.at.returns g c in
     let s = sorted g at.After-descending-sides in
-    (by_longest g at.After-plain_sum s ∙ c.in_default-plain_sum.is, in_order (c.args.x.reading ∷ c.args.y.reading ∷ c.args.z.reading ∷ []) (ordered_units c.descending-sides.result) _ s c.pose_sum.ensures)
+    (by_longest g at.After-plain_sum s ∙ c.in_ok-break_on-2.ensures, in_order (c.args.x.reading ∷ c.args.y.reading ∷ c.args.z.reading ∷ []) (ordered_units c.descending-sides.result) _ s c.pose_sum.ensures)

@@ -28,7 +28,7 @@ rounded_root-rounded-requires-clause-proposal g c = start g (goal.at.rounded_roo
 -- how many bits are dropped
 record Drops (p : Posed) (dropped : ℕ) : Type 0 where
   most : dropped ≤ 81
-  enough : 24 + p.places ≤ p.bits + dropped
+  enough : 24 + p.head.places ≤ p.bits + dropped
   some : 1 ≤ dropped
 
 drops : (g : _) (c : After-rounded_root-rounded g) → Walkable c.args.posed.radicand c.proposal_for-proposal.result → Drops c.args.posed c.rounded_root-rounded.result.dropped
@@ -36,7 +36,7 @@ drops g c w =
     let p = c.args.posed in
     let poses = c.requires.posed.3 in
     let short : p.radicand.bits < 4 = poses.stands.bits_short in
-    let least : c.saturating_sub-least.result ≡ 24 + p.places - p.bits = c.saturating_sub-least.ensures in
+    let least : c.saturating_sub-least.result ≡ 24 + p.head.places - p.bits = c.saturating_sub-least.ensures in
     let d = c.rounded_root-rounded.ensures.dropped in
     let precision : c.form.result.precision ≤ 53 = omega (arith, ap (λ (x : Form). x.precision) c.form.ensures, g.met.F.NumberForm.lawful.in_range.precision_most) in
     record {
@@ -71,9 +71,9 @@ returns g c h n largest poses =
     let out = c.rounded_root-rounded.result in
     let dropped = out.dropped in
     let few = drops g (goal.at.returns g c).After-rounded_root-rounded (start g (goal.at.returns g c).After-proposal_for-proposal) in
-    let e = p.bits + dropped - (24 + p.places) in
-    let scaled : Scaled n e (n * 4 ^ (23 + p.places)) (4 ^ (size largest - 1)) dropped least =
-    subst (Scaled n e (n * 4 ^ (23 + p.places)) (4 ^ (size largest - 1)) dropped) (sym c.saturating_sub-least.ensures)
+    let e = p.bits + dropped - (24 + p.head.places) in
+    let scaled : Scaled n e (n * 4 ^ (23 + p.head.places)) (4 ^ (size largest - 1)) dropped least =
+    subst (Scaled n e (n * 4 ^ (23 + p.head.places)) (4 ^ (size largest - 1)) dropped) (sym c.saturating_sub-least.ensures)
     (scaled_as h n largest p poses dropped e few.enough refl (λ z. omega (arith, few.some, few.enough))) in
     let long : Length c.form.result.precision n out.significand (after_carry out.carried e) = c.rounded_root-rounded.ensures.length n e _ _ poses.stands scaled in
     let exponent : after_carry out.carried e ≡ e + c.from.result = carry_is out.carried e ∙ ap (λ (x : ℕ). e + x) (sym c.from.ensures) in
