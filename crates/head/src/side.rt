@@ -59,8 +59,10 @@ mod tests {
 
     #[test]
     fn short(rt: HostRuntime) {
-        let three = full_length(3);
-        assert_eq!(rt; three.significand, 0x18_0000_0000_0000);
-        assert_eq!(rt; three.moved, 51);
+        let three = FullSignificand {
+            significand: 0x18_0000_0000_0000,
+            moved: 51,
+        };
+        assert_eq!(rt; full_length(3), three);
     }
 }

@@ -117,9 +117,11 @@ mod tests {
             cut: false,
         };
         let walked = walk(radicand, (1 << 53) + 131);
-        assert_eq!(rt; walked.floor.root, (1 << 53) - 1);
-        assert_eq!(rt; walked.floor.residual, (1 << 54) - 2);
-        assert_eq!(rt; walked.count, 132);
+        let floor = Rooted {
+            root: (1 << 53) - 1,
+            residual: (1 << 54) - 2,
+        };
+        assert_eq!(rt; walked, Walked { floor, count: 132 });
     }
 
     #[test]
@@ -132,8 +134,10 @@ mod tests {
             cut: false,
         };
         let walked = walk(radicand, (1 << 54) - 100);
-        assert_eq!(rt; walked.floor.root, 1 << 54);
-        assert_eq!(rt; walked.floor.residual, 0);
-        assert_eq!(rt; walked.count, 100);
+        let floor = Rooted {
+            root: 1 << 54,
+            residual: 0,
+        };
+        assert_eq!(rt; walked, Walked { floor, count: 100 });
     }
 }
