@@ -10,7 +10,7 @@ ghost use Rattle.constant_source.specs.Constants.{constant_sound};
 use sources::root_source::RootSource;
 
 /// Proposes `2^53` for every word.
-#[derive(Clone, Copy)]
+#[derive(Clone, Copy, PartialEq, Eq, Debug)]
 pub struct ConstantSource;
 
 impl RootSource for ConstantSource {
@@ -23,10 +23,7 @@ impl RootSource for ConstantSource {
     }
 
     fn propose(&self, word: u64) -> Option<u64> {
-        if word < 1 << 62 {
-            return None;
-        }
-        Some(1 << 53)
+        (word >= 1 << 62).then_some(1 << 53)
     }
 }
 
@@ -43,12 +40,7 @@ mod tests {
 
     #[test]
     fn four_steps(rt: HostRuntime) -> Result<(), Fail> {
-        match Refiner::new(ConstantSource, 4) {
-            Ok(refiner) => {
-                assert_eq!(rt; refiner.grade(), 53);
-                Ok(())
-            },
-            Err(refusal) => Err(Fail::new(refusal.number())),
-        }
+        assert_eq!(rt; Refiner::new(ConstantSource, 4)?.grade(), 53);
+        Ok(())
     }
 }

@@ -1,12 +1,12 @@
 //! The parameters of a number form: which magnitudes it holds.
-ghost use Rattle.std.specs.Prelude.{◌≡◌, ◌-◌, ◌^◌, ◌<◌, ◌≤◌, Decides};
+ghost use Rattle.std.specs.Prelude.{◌≡◌, ◌-◌, ◌^◌, ◌<◌, ◌≤◌, ◌↔◌, IsTrue};
 ghost use Rattle.exact.specs.Value.{Value};
 
 use crate::length::Magnitude;
 
 /// The magnitudes `significand * 2^exponent` of a form. Exponents are counted from the least one,
 /// so they run from 0 to `span`.
-#[derive(Clone, Copy)]
+#[derive(Clone, Copy, PartialEq, Eq, Debug)]
 pub struct Form {
     /// the most bits of a significand
     pub precision: u32,
@@ -21,14 +21,14 @@ pub struct Form {
 impl Form {
     /// Whether a magnitude is a value of the form.
     pub fn contains(self, magnitude: Magnitude) -> bool
-        ensures { Decides result (Value self magnitude.significand magnitude.exponent) }
+        ensures { IsTrue result ↔ (Value self magnitude.significand magnitude.exponent) }
     {
         self.reaches(magnitude) && self.fits(magnitude)
     }
 
     // Whether the exponent, and at the largest exponent the significand, is not too large.
     fn reaches(self, magnitude: Magnitude) -> bool
-        ensures { Decides result ((magnitude.exponent ≤ self.span) × (magnitude.exponent ≡ self.span → magnitude.significand ≤ self.largest)) }
+        ensures { IsTrue result ↔ ((magnitude.exponent ≤ self.span) × (magnitude.exponent ≡ self.span → magnitude.significand ≤ self.largest)) }
     {
         if magnitude.exponent == self.span {
             magnitude.significand <= self.largest
@@ -39,7 +39,7 @@ impl Form {
 
     // Whether the significand has no bit too many, and above the least exponent none too few.
     fn fits(self, magnitude: Magnitude) -> bool
-        ensures { Decides result ((magnitude.significand < 2 ^ self.precision) × (0 < magnitude.exponent → 2 ^ (self.precision - 1) ≤ magnitude.significand)) }
+        ensures { IsTrue result ↔ ((magnitude.significand < 2 ^ self.precision) × (0 < magnitude.exponent → 2 ^ (self.precision - 1) ≤ magnitude.significand)) }
     {
         let bits = 64 - magnitude.significand.leading_zeros();
         bits <= self.precision && (magnitude.exponent == 0 || bits >= self.precision.max(1))

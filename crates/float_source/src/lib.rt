@@ -30,7 +30,7 @@ use std::num::truncating_f64_to_u64;
 /// A root source that holds the word exactly as a pair of floats and improves a first guess by float
 /// division. Its grade is 4. Which proposal it makes is a free choice within that: any other within
 /// 16 of the root would serve as well, and it is pinned only so that it is one for each word.
-#[derive(Clone, Copy)]
+#[derive(Clone, Copy, PartialEq, Eq, Debug)]
 pub struct FloatSource;
 
 impl RootSource for FloatSource {
@@ -43,10 +43,7 @@ impl RootSource for FloatSource {
     }
 
     fn propose(&self, word: u64) -> Option<u64> {
-        if word < 1 << 62 {
-            return None;
-        }
-        Some(proposal(word))
+        (word >= 1 << 62).then(|| proposal(word))
     }
 }
 
@@ -126,7 +123,7 @@ fn cut_root(root: f64) -> u64
     ensures { result ≡ cut root }
 {
     let whole = truncating_f64_to_u64(root * 4194304.0);
-    whole.min((1 << 54) - 1).max(1 << 53)
+    whole.clamp(1 << 53, (1 << 54) - 1)
 }
 
 #[cfg(test)]
@@ -152,12 +149,7 @@ mod tests {
     #[test]
     fn grades(rt: HostRuntime) -> Result<(), Fail> {
         assert_eq!(rt; FloatSource.grade(), 4);
-        match Refiner::new(FloatSource, 1) {
-            Ok(refiner) => {
-                assert_eq!(rt; refiner.grade(), 0);
-                Ok(())
-            },
-            Err(refusal) => Err(Fail::new(refusal.number())),
-        }
+        assert_eq!(rt; Refiner::new(FloatSource, 1)?.grade(), 0);
+        Ok(())
     }
 }

@@ -11,7 +11,7 @@ ghost use Rattle.floats.specs.ExactSum.{ExactSum, lost_of_b, lost};
 use std::ops::Neg;
 
 /// A number as an unevaluated sum of two floats.
-#[derive(Clone, Copy)]
+#[derive(Clone, Copy, PartialEq, Debug)]
 pub struct DoubleDouble {
     pub hi: f64,
     pub lo: f64,
@@ -84,7 +84,7 @@ fn sum_and_loss(a: f64, b: f64) -> DoubleDouble
 #[cfg(test)]
 mod tests {
     use super::*;
-    use std::test::Fail;
+    use std::num::f64_to_bits_with_nan;
 
     // 2^-60, 2^53, 2^1000 and the smallest positive float
     const TINY: f64 = 8.673617379884035e-19;
@@ -95,9 +95,9 @@ mod tests {
 
     const LEAST: f64 = 5e-324;
 
-    // The same float, where zeros of unlike signs have unlike reciprocals.
+    // By bits, since `==` takes zeros of unlike signs as equal.
     fn same(x: f64, y: f64) -> bool {
-        x == y && 1.0 / x == 1.0 / y
+        f64_to_bits_with_nan(x) == f64_to_bits_with_nan(y)
     }
 
     fn is(sum: DoubleDouble, hi: f64, lo: f64) -> bool {
@@ -105,7 +105,7 @@ mod tests {
     }
 
     #[test]
-    fn larger_term_first(rt: HostRuntime) -> Result<(), Fail> {
+    fn larger_term_first(rt: HostRuntime) {
         let above = DoubleDouble::from_exact_add(1.0, TINY);
         assert!(rt; is(above, 1.0, TINY));
         let under = DoubleDouble::from_exact_add(1.0, -TINY);
@@ -114,11 +114,10 @@ mod tests {
         assert!(rt; is(tie, FULL, 1.0));
         let cancelled = DoubleDouble::from_exact_add(-3.0, 2.0);
         assert!(rt; is(cancelled, -1.0, 0.0));
-        Ok(())
     }
 
     #[test]
-    fn smaller_term_first(rt: HostRuntime) -> Result<(), Fail> {
+    fn smaller_term_first(rt: HostRuntime) {
         let above = DoubleDouble::from_full_exact_add(TINY, 1.0);
         assert!(rt; is(above, 1.0, TINY));
         let under = DoubleDouble::from_full_exact_add(-TINY, 1.0);
@@ -128,11 +127,10 @@ mod tests {
         // The rounded sum less the first term is not a float here.
         let inexact = DoubleDouble::from_full_exact_add(21.5, 4503599627370499.0);
         assert!(rt; is(inexact, 4503599627370520.0, 0.5));
-        Ok(())
     }
 
     #[test]
-    fn least_and_largest(rt: HostRuntime) -> Result<(), Fail> {
+    fn least_and_largest(rt: HostRuntime) {
         let zero = DoubleDouble::from_full_exact_add(0.0, -0.0);
         assert!(rt; is(zero, 0.0, 0.0));
         let below = DoubleDouble::from_full_exact_add(-0.0, -0.0);
@@ -143,7 +141,6 @@ mod tests {
         assert!(rt; is(wide, -LARGE, LEAST));
         let doubled = DoubleDouble::from_full_exact_add(LARGE, LARGE);
         assert!(rt; is(doubled, 2.0 * LARGE, 0.0));
-        Ok(())
     }
 
     #[test]

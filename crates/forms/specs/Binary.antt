@@ -18,17 +18,18 @@ read_fields ones implicit_bit negative exponent fraction =
 abbrev pub read_binary : ℕ → ℕ → ℕ → Reading
 read_binary w t pattern = read_fields (2 ^ w - 1) (2 ^ t) (nat_le (2 ^ (w + t)) pattern) (pattern / 2 ^ t % 2 ^ w) (pattern % 2 ^ t)
 
--- the constants of a format that code goes by: precision, an exponent field of ones, implicit bit and sign bit
-pub record FieldsAre (w t precision ones implicit_bit sign_bit : ℕ) : Type 0 where
+-- the constants of a format that code goes by: precision, an exponent field of ones and implicit bit
+pub record FieldsAre (w t precision ones implicit_bit : ℕ) : Type 0 where
   pub precision_is : precision ≡ t + 1
   pub ones_are : ones ≡ 2 ^ w - 1
   pub implicit_bit_is : implicit_bit ≡ 2 ^ t
-  pub sign_bit_is : sign_bit ≡ 2 ^ (w + t)
   -- an exponent field of ones is above those of the least and the largest exponent
   pub some_exponents : 2 ≤ ones
   -- the sign bit is the first above the other two fields, and lies in a word
-  pub sign_bit_above : sign_bit ≡ (ones + 1) * implicit_bit
-  pub sign_bit_within : sign_bit < 2 ^ 64
+  pub sign_bit_above : 2 ^ (w + t) ≡ (ones + 1) * implicit_bit
+  pub sign_bit_within : 2 ^ (w + t) < 2 ^ 64
+  -- the quiet NaN has the top bit of the fraction field
+  pub quiet_nan_is : (2 ^ (w + 1) - 1) * 2 ^ (t - 1) ≡ ones * implicit_bit + implicit_bit / 2
 
 -- precision, exponents and largest significand
 abbrev pub binary_form : ℕ → ℕ → ℤ → Form

@@ -25,12 +25,6 @@ pub trait BinaryPattern: Copy {
     /// The bit above the fraction field.
     const IMPLICIT_BIT: u64;
 
-    const SIGN_BIT: u64;
-
-    const QUIET_NAN: Self;
-
-    const PLUS_INFINITY: Self;
-
     ghost PRECISION: { ℕ };
 
     ghost LEAST_EXPONENT: { ℤ };
@@ -38,12 +32,6 @@ pub trait BinaryPattern: Copy {
     ghost EXPONENT_ONES: { ℕ };
 
     ghost IMPLICIT_BIT: { ℕ };
-
-    ghost SIGN_BIT: { ℕ };
-
-    ghost QUIET_NAN: { Self };
-
-    ghost PLUS_INFINITY: { Self };
 
     ghost exponent_bits: { ℕ };
 
@@ -59,14 +47,10 @@ pub trait BinaryPattern: Copy {
 
     /// The pattern of a word with no sign bit.
     fn from_word(bits: u64) -> Self
-        requires { bits < SIGN_BIT }
+        requires { bits < 2 ^ (exponent_bits + fraction_bits) }
         ensures { result ≡ pattern bits };
 
-    ghost fields: { FieldsAre exponent_bits fraction_bits PRECISION EXPONENT_ONES IMPLICIT_BIT SIGN_BIT };
-
-    ghost quiet_nan_is: { QUIET_NAN ≡ (binary exponent_bits fraction_bits LEAST_EXPONENT word pattern).quiet_nan };
-
-    ghost plus_infinity_is: { PLUS_INFINITY ≡ (binary exponent_bits fraction_bits LEAST_EXPONENT word pattern).plus_infinity };
+    ghost fields: { FieldsAre exponent_bits fraction_bits PRECISION EXPONENT_ONES IMPLICIT_BIT };
 
     ghost lawful: { Lawful (binary exponent_bits fraction_bits LEAST_EXPONENT word pattern) };
 }
@@ -80,12 +64,6 @@ impl BinaryPattern for u64 {
 
     const IMPLICIT_BIT: u64 = 1 << 52;
 
-    const SIGN_BIT: u64 = 1 << 63;
-
-    const QUIET_NAN: u64 = 0x7ff8_0000_0000_0000;
-
-    const PLUS_INFINITY: u64 = 0x7ff0_0000_0000_0000;
-
     ghost PRECISION = { 53 };
 
     ghost LEAST_EXPONENT = { negsuc 1073 };
@@ -93,12 +71,6 @@ impl BinaryPattern for u64 {
     ghost EXPONENT_ONES = { 0x7ff };
 
     ghost IMPLICIT_BIT = { 2 ^ 52 };
-
-    ghost SIGN_BIT = { 2 ^ 63 };
-
-    ghost QUIET_NAN = { 0x7ff8_0000_0000_0000 };
-
-    ghost PLUS_INFINITY = { 0x7ff0_0000_0000_0000 };
 
     ghost exponent_bits = { 11 };
 
@@ -109,10 +81,6 @@ impl BinaryPattern for u64 {
     ghost pattern = { λ word. word };
 
     ghost fields = { Prim.search rules };
-
-    ghost quiet_nan_is = { Prim.search rules };
-
-    ghost plus_infinity_is = { Prim.search rules };
 
     ghost lawful = { Prim.search rules };
 
@@ -134,12 +102,6 @@ impl BinaryPattern for u32 {
 
     const IMPLICIT_BIT: u64 = 1 << 23;
 
-    const SIGN_BIT: u64 = 1 << 31;
-
-    const QUIET_NAN: u32 = 0x7fc0_0000;
-
-    const PLUS_INFINITY: u32 = 0x7f80_0000;
-
     ghost PRECISION = { 24 };
 
     ghost LEAST_EXPONENT = { negsuc 148 };
@@ -147,12 +109,6 @@ impl BinaryPattern for u32 {
     ghost EXPONENT_ONES = { 0xff };
 
     ghost IMPLICIT_BIT = { 2 ^ 23 };
-
-    ghost SIGN_BIT = { 2 ^ 31 };
-
-    ghost QUIET_NAN = { 0x7fc0_0000 };
-
-    ghost PLUS_INFINITY = { 0x7f80_0000 };
 
     ghost exponent_bits = { 8 };
 
@@ -163,10 +119,6 @@ impl BinaryPattern for u32 {
     ghost pattern = { λ word. word };
 
     ghost fields = { Prim.search rules };
-
-    ghost quiet_nan_is = { Prim.search rules };
-
-    ghost plus_infinity_is = { Prim.search rules };
 
     ghost lawful = { Prim.search rules };
 
@@ -208,9 +160,10 @@ impl<P: BinaryPattern> NumberForm for Binary<P> {
         let word = pattern.to_word();
         let ones = P::EXPONENT_ONES;
         let implicit_bit = P::IMPLICIT_BIT;
+        let exponents = ones as u64 + 1;
         let fields = Fields {
-            negative: word >= P::SIGN_BIT,
-            exponent: (word / implicit_bit % (ones as u64 + 1)) as u32,
+            negative: word >= exponents * implicit_bit,
+            exponent: (word / implicit_bit % exponents) as u32,
             fraction: word % implicit_bit,
         };
         fields.read(ones, implicit_bit)
@@ -226,11 +179,12 @@ impl<P: BinaryPattern> NumberForm for Binary<P> {
     }
 
     fn quiet_nan() -> P {
-        P::QUIET_NAN
+        let infinity = P::EXPONENT_ONES as u64 * P::IMPLICIT_BIT;
+        P::from_word(infinity + P::IMPLICIT_BIT / 2)
     }
 
     fn plus_infinity() -> P {
-        P::PLUS_INFINITY
+        P::from_word(P::EXPONENT_ONES as u64 * P::IMPLICIT_BIT)
     }
 }
 

@@ -7,6 +7,7 @@ use crate::reading::Reading;
 use exact::form::Form;
 use exact::length::Magnitude;
 
+#[derive(Clone, Copy, PartialEq, Eq, Debug)]
 pub struct Thousandths;
 
 const OVER_RANGE: u32 = 0x7fff_ffff;
@@ -53,11 +54,9 @@ impl NumberForm for Thousandths {
     }
 
     fn write(magnitude: Magnitude) -> Option<u32> {
-        if Self::form().contains(magnitude) {
-            Some(magnitude.significand as u32)
-        } else {
-            None
-        }
+        Self::form()
+            .contains(magnitude)
+            .then(|| magnitude.significand as u32)
     }
 
     fn quiet_nan() -> u32 {

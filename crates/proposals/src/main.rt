@@ -35,23 +35,7 @@ fn print_refined<S: RootSource + Drop>(
 ) -> anyhow::Result<()> {
     match Refiner::new(below, steps) {
         Ok(refiner) => print_proposal(rt, &refiner, word),
-        Err(refusal) => {
-            let number = refusal.number();
-            println!(rt; "refused with {number}")?;
-            Ok(())
-        }
-    }
-}
-
-// The same of a table source with one step, and two steps over that.
-fn print_nested(rt: &HostRuntime, word: u64) -> anyhow::Result<()> {
-    match Refiner::new(TableSource, 1) {
-        Ok(refiner) => print_refined(rt, refiner, 2, word),
-        Err(refusal) => {
-            let number = refusal.number();
-            println!(rt; "refused with {number}")?;
-            Ok(())
-        }
+        Err(refusal) => Ok(println!(rt; "{refusal}")?),
     }
 }
 
@@ -62,12 +46,12 @@ fn print_proposals(rt: &HostRuntime, word: u64) -> anyhow::Result<()> {
     print_proposal(rt, &DigitSource, word)?;
     print!(rt; "  table: ")?;
     print_proposal(rt, &TableSource, word)?;
-    for steps in 1..6_u32 {
+    for steps in 1..=5 {
         print!(rt; "  table, steps {steps}: ")?;
         print_refined(rt, TableSource, steps, word)?;
     }
     print!(rt; "  table, steps 1, then 2: ")?;
-    print_nested(rt, word)?;
+    print_refined(rt, Refiner::new(TableSource, 1)?, 2, word)?;
     print!(rt; "  floats: ")?;
     print_proposal(rt, &FloatSource, word)?;
     print!(rt; "  floats, steps 1: ")?;

@@ -10,7 +10,7 @@ ghost use Rattle.sources.specs.Digits.{exact_sound};
 use crate::root_source::RootSource;
 
 /// Proposes the root exactly.
-#[derive(Clone, Copy)]
+#[derive(Clone, Copy, PartialEq, Eq, Debug)]
 pub struct DigitSource;
 
 impl RootSource for DigitSource {
@@ -23,10 +23,7 @@ impl RootSource for DigitSource {
     }
 
     fn propose(&self, word: u64) -> Option<u64> {
-        if word < 1 << 62 {
-            return None;
-        }
-        Some(digit_root(word))
+        (word >= 1 << 62).then(|| digit_root(word))
     }
 }
 

@@ -3,15 +3,17 @@
 //! A step from a guess that lies at most `d` from the root never ends below the root, and above it
 //! by at most `(d + 1)^2 / 2^54`, rounded up. So it turns a grade `c` into `2c - 53`, or into 0
 //! where `c` is at most 26.
-ghost use Rattle.std.specs.Prelude.{◌≡◌, ◌^◌, ◌<◌, ◌≤◌, IfOk, MatchResult};
+ghost use Rattle.std.specs.Prelude.{◌≡◌, ◌^◌, ◌<◌, ◌≤◌, ◌++◌, IfOk, MatchResult, Some, codes, decimal};
 ghost use Rattle.sources.specs.Refined.{word_quotient, refined_guess, refined_grade, repeated, refined};
 ghost use Rattle.sources.specs.Refiner.{StepCount, steps_refused};
 ghost use Rattle.sources.specs.Refining.{refined_sound};
 
 use crate::root_source::RootSource;
+use std::error::Error;
+use std::fmt;
 
 /// A source over another one, with one to four steps from each of its proposals.
-#[derive(Drop)]
+#[derive(Debug, Drop)]
 pub struct Refiner<S> {
     below: S,
     steps: u32,
@@ -19,7 +21,7 @@ pub struct Refiner<S> {
 }
 
 /// The refusal of a number of steps, with the source that was to be refined.
-#[derive(Drop)]
+#[derive(Debug, Drop)]
 pub struct StepsRefused<S> {
     pub below: S,
 }
@@ -33,6 +35,16 @@ impl<S> StepsRefused<S> {
     }
 }
 
+impl<S> fmt::Display for StepsRefused<S> {
+    ghost output = { λ _. Some (codes "refused with " ++ decimal steps_refused) };
+
+    fn fmt<W: fmt::Write>(&self, f: &mut fmt::Formatter<W>) -> fmt::Result {
+        write!(f, "refused with {}", self.number())
+    }
+}
+
+impl<S: fmt::Debug + Drop> Error for StepsRefused<S> {}
+
 impl<S: RootSource> Refiner<S> {
     /// The source below with 1 to 4 steps. Any other number is refused, and the source given back
     /// as it was.
@@ -41,10 +53,11 @@ impl<S: RootSource> Refiner<S> {
         ensures source { MatchResult result (λ f. f.below ≡ below) (λ e. e.below ≡ below) }
         ensures steps { IfOk result (λ f. f.steps ≡ steps) }
     {
-        if steps < 1 || steps > 4 {
-            return Err(StepsRefused { below });
+        if (1..=4).contains(&steps) {
+            Ok(Refiner { below, steps })
+        } else {
+            Err(StepsRefused { below })
         }
-        Ok(Refiner { below, steps })
     }
 
     /// The source below, as it was.
@@ -130,32 +143,21 @@ mod tests {
     use crate::table::TableSource;
     use std::test::Fail;
 
-    fn with_steps<S: RootSource + Drop>(below: S, steps: u32) -> Result<Refiner<S>, Fail> {
-        match Refiner::new(below, steps) {
-            Ok(refiner) => Ok(refiner),
-            Err(refusal) => Err(Fail::new(refusal.number())),
-        }
-    }
-
     #[test]
     fn grades(rt: HostRuntime) -> Result<(), Fail> {
-        assert_eq!(rt; with_steps(TableSource, 2)?.grade(), 29);
-        assert_eq!(rt; with_steps(TableSource, 3)?.grade(), 5);
-        assert_eq!(rt; with_steps(with_steps(TableSource, 1)?, 2)?.grade(), 5);
+        assert_eq!(rt; Refiner::new(TableSource, 2)?.grade(), 29);
+        assert_eq!(rt; Refiner::new(TableSource, 3)?.grade(), 5);
+        assert_eq!(rt; Refiner::new(Refiner::new(TableSource, 1)?, 2)?.grade(), 5);
         Ok(())
     }
 
     #[test]
     fn refusals(rt: HostRuntime) -> Result<(), Fail> {
         assert!(rt; Refiner::new(TableSource, 0).is_err());
-        match Refiner::new(TableSource, 5) {
-            Ok(_) => Err(Fail::new("five steps")),
-            Err(refusal) => {
-                assert_eq!(rt; refusal.number(), 1);
-                assert_eq!(rt; refusal.below.grade(), 47);
-                Ok(())
-            }
-        }
+        let refusal = Refiner::new(TableSource, 5).err().ok_or("five steps")?;
+        assert_eq!(rt; refusal.number(), 1);
+        assert_eq!(rt; refusal.below.grade(), 47);
+        Ok(())
     }
 
     // The grade 0 allows a distance of 1, and a step from the root may take it.
@@ -163,12 +165,12 @@ mod tests {
     fn grade_zero_is_not_exact(rt: HostRuntime) -> Result<(), Fail> {
         let word = (1 << 62) + 1024;
         assert_eq!(rt;
-            with_steps(DigitSource, 1)?.propose(word),
+            Refiner::new(DigitSource, 1)?.propose(word),
             Some((1 << 53) + 1)
         );
-        assert_eq!(rt; with_steps(DigitSource, 2)?.propose(word), Some(1 << 53));
+        assert_eq!(rt; Refiner::new(DigitSource, 2)?.propose(word), Some(1 << 53));
         assert_eq!(rt;
-            with_steps(DigitSource, 3)?.propose(word),
+            Refiner::new(DigitSource, 3)?.propose(word),
             Some((1 << 53) + 1)
         );
         Ok(())

@@ -10,7 +10,7 @@ ghost use Rattle.sources.specs.TableReach.{table_sound};
 use crate::root_source::RootSource;
 
 /// Proposes the root of the word's leading byte.
-#[derive(Clone, Copy)]
+#[derive(Clone, Copy, PartialEq, Eq, Debug)]
 pub struct TableSource;
 
 impl RootSource for TableSource {
@@ -23,10 +23,7 @@ impl RootSource for TableSource {
     }
 
     fn propose(&self, word: u64) -> Option<u64> {
-        if word < 1 << 62 {
-            return None;
-        }
-        Some((byte_root(word >> 56) as u64) << 40)
+        (word >= 1 << 62).then(|| (byte_root(word >> 56) as u64) << 40)
     }
 }
 
