@@ -11,8 +11,8 @@ use lengths::call::{Call, Measured};
 use solver::states::Sealed;
 use sources::root_source::RootSource;
 
-/// The length calls of two sides, as a column makes them. An enum and no closure: a closure would ask a
-/// caller to show that it may be called.
+/// The length calls of two sides, as a column makes them.
+// An enum and no closure: a closure would ask a caller to show that it may be called.
 #[derive(Clone, Copy, PartialEq, Eq, Debug)]
 pub enum Operation {
     Hypot,
