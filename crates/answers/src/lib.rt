@@ -1,5 +1,4 @@
-//! Answers to lines of text: a sealed solver for each number form, and a session over the bytes of an
-//! input.
+//! Answers to lines of text, each by the sealed solver of the number form that it names.
 #![tactic(auto)]
 
 pub mod outcome;

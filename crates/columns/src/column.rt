@@ -11,8 +11,8 @@ use lengths::call::{Call, Measured};
 use solver::states::Sealed;
 use sources::root_source::RootSource;
 
-/// The length calls of two sides, as a column makes them. An enum and no closure: a closure would ask a
-/// caller to show that it may be called.
+/// The length calls of two sides, as a column makes them.
+// An enum and no closure: a closure would ask a caller to show that it may be called.
 #[derive(Clone, Copy, PartialEq, Eq, Debug)]
 pub enum Operation {
     Hypot,
@@ -81,7 +81,8 @@ fn fill<F: NumberForm, R: RootSource>(
     ensures value { left_by lengths.new counts.new solver.new result ≡ entries F.NumberForm.encoding R.RootSource.meaning operation 0 solver.old xs.now ys.now lengths.old counts.old }
     ensures log { Logs F.NumberForm.encoding R.RootSource.meaning solver.old (told_column operation xs.now ys.now lengths.new counts.new result) solver.new }
 {
-    // By index: zipped with the columns to write, an entry is `(i, (((x, y), length), count))`, no plainer.
+    // By index: a column call is a loop over the elements of one slice with their index. Zipping `ys` is no
+    // plainer, since the index stays for the place and for both columns that are written.
     for (i, x) in xs.iter().enumerate() {
         let measured = measured_at(i, solver, operation.call(*x, ys[i]))?;
         lengths[i] = measured.pattern;

@@ -7,14 +7,14 @@ ghost use Rattle.columns.specs.Refusals.{column_numbered};
 use solver::refusal::{CallRefusal, Numbered};
 
 /// The solver's refusal of a column's entry, with the entry's place.
-#[derive(Clone, Copy, Debug)]
+#[derive(Clone, Copy, PartialEq, Eq, Debug)]
 pub struct EntryRefused {
     pub place: usize,
     pub refusal: CallRefusal,
 }
 
 /// Why a column is refused, or stops.
-#[derive(Clone, Copy, Debug)]
+#[derive(Clone, Copy, PartialEq, Eq, Debug)]
 pub enum ColumnRefusal {
     /// the columns differ in length
     DifferentLengths,
@@ -40,14 +40,10 @@ impl ColumnRefusal {
                 place: None,
                 value: Some(entries as u64),
             },
-            ColumnRefusal::AtEntry { refused } => {
-                let numbered = refused.refusal.numbered();
-                Numbered {
-                    number: numbered.number,
-                    place: Some(refused.place),
-                    value: numbered.value,
-                }
-            }
+            ColumnRefusal::AtEntry { refused } => Numbered {
+                place: Some(refused.place),
+                ..refused.refusal.numbered()
+            },
         }
     }
 }

@@ -7,7 +7,8 @@ ghost use Rattle.commands.specs.Reply.{pattern_digits};
 use crate::line_buffer::{CAPACITY, LineBuffer};
 use crate::pattern::PatternBits;
 
-// No `fmt::Write`: by its contract a `write!` may fail, and then no clause names the bytes of the line.
+// No `fmt::Write`: the contract of `write!` names the bytes only where it answers `Ok`, and never promises
+// that it does.
 impl LineBuffer {
     /// A line with no bytes yet.
     pub(crate) fn new() -> LineBuffer
@@ -53,8 +54,9 @@ impl LineBuffer {
         self.push_bytes(digits.format(number).as_bytes());
     }
 
-    /// Adds the last so many hexadecimal digits of a number, in small letters. By its own recursion: the
-    /// contract of `write!` pins no byte where it answers an error, and the crate `hex` spells byte arrays.
+    /// Adds the last so many hexadecimal digits of a number, in small letters.
+    // By its own recursion: `hex::encode_to_slice` is no plainer, since it writes into a second buffer of the
+    // length for each width, to be copied from, and answers a `Result` that is never an error here.
     pub(crate) fn push_hex(&mut self, digits: u8, number: u64)
         ensures { kept self.new ≡ take 81 (kept self.old ++ hex_digits digits number) }
     {

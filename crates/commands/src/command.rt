@@ -14,7 +14,8 @@ pub enum Operation {
 }
 
 impl Operation {
-    /// The operation that a letter names. No `TryFrom<u8>`: its error would say no more than `None`.
+    /// The operation that a letter names.
+    // No `TryFrom<u8>`: its error would say no more than `None`.
     pub(crate) fn of_letter(letter: u8) -> Option<Operation>
         ensures { result ≡ operation_of letter }
     {
@@ -48,7 +49,8 @@ pub enum FormName {
 }
 
 impl FormName {
-    /// The form that a letter names. No `TryFrom<u8>`: its error would say no more than `None`.
+    /// The form that a letter names.
+    // No `TryFrom<u8>`: its error would say no more than `None`.
     pub(crate) fn of_letter(letter: u8) -> Option<FormName>
         ensures { result ≡ form_of letter }
     {

@@ -17,8 +17,9 @@ pub enum Layer {
 }
 
 impl Layer {
-    /// The word that names the layer in an answer. No `Display`: a line buffer takes bytes, which a
-    /// `write!` need not give.
+    /// The word that names the layer in an answer.
+    // No `Display`: the contract of `write!` names the bytes only where it answers `Ok`, and never promises
+    // that it does.
     pub(crate) fn word(self) -> &'static [u8]
         ensures { result.now ≡ layer_word self }
     {

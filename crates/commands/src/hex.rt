@@ -1,4 +1,4 @@
-//! Numbers in hexadecimal digits.
+//! That patterns in hexadecimal digits, as answers write them, read back.
 ghost use Rattle.commands.specs.Hex.{WrittenReadsBack};
 
 /// A pattern that is written reads back as itself.

@@ -10,9 +10,7 @@ use std::io;
 /// Calls of each kind, a new scan, and the solver sealed anew with another allowance.
 pub fn print_calls(rt: &HostRuntime) -> anyhow::Result<()> {
     let solver: Solver<Binary64, DigitSource> = Solver::new(DigitSource);
-    let Ok(mut sealed) = solver.seal(6) else {
-        return Err(anyhow!("not sealed"));
-    };
+    let mut sealed = solver.seal(6).map_err(|_| anyhow!("not sealed"))?;
     print_allowance(rt, sealed.allowance())?;
     let hypotenuse = sealed.hypot(0x3fff_0006_e3ba_bf70, 0x3fdf_bf53_dc0e_a6e9);
     print_result(rt, "hypot", hypotenuse, sealed.steps_left())?;
@@ -23,9 +21,8 @@ pub fn print_calls(rt: &HostRuntime) -> anyhow::Result<()> {
     sealed.new_scan();
     let steps_left = sealed.steps_left();
     println!(rt; "  new scan, steps left {steps_left}")?;
-    let Ok(mut sealed) = sealed.break_seal().seal(1_000) else {
-        return Err(anyhow!("not sealed"));
-    };
+    let resealed = sealed.break_seal().seal(1_000);
+    let mut sealed = resealed.map_err(|_| anyhow!("not sealed"))?;
     print_allowance(rt, sealed.allowance())?;
     let resultant = sealed.three_sides(
         0x3ff4_fa69_612b_e5dc,

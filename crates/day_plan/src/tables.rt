@@ -12,9 +12,7 @@ use std::io;
 pub fn print_tables(rt: &HostRuntime) -> anyhow::Result<()> {
     println!(rt; "columns in binary64 over digits, allowance 7")?;
     let solver: Solver<Binary64, DigitSource> = Solver::new(DigitSource);
-    let Ok(mut sealed) = solver.seal(7) else {
-        return Err(anyhow!("not sealed"));
-    };
+    let mut sealed = solver.seal(7).map_err(|_| anyhow!("not sealed"))?;
     print_stopping(rt, &mut sealed)?;
     print_limits(rt, &mut sealed)?;
     Ok(())

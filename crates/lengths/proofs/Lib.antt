@@ -10,3 +10,4 @@ pub mod RightAsked
 pub mod RightSums
 pub mod RightLengths
 pub mod RootLengths
+pub mod Printed

@@ -5,3 +5,4 @@ pub mod Finite
 pub mod LengthOf
 pub mod Right
 pub mod Examples
+pub mod CallText

@@ -1,4 +1,6 @@
 //! Length calls on patterns.
+ghost use Rattle.lengths.specs.CallText.{call_text, measured_text};
+
 use std::fmt;
 
 /// What a length call asks for, with the patterns of its sides.
@@ -21,6 +23,8 @@ pub struct Measured<P> {
 
 /// The call's name and its patterns in hexadecimal digits.
 impl<P: Copy + fmt::Radix> fmt::Display for Call<P> {
+    ghost output = { call_text P.HasDigits.word };
+
     fn fmt<W: fmt::Write>(&self, f: &mut fmt::Formatter<W>) -> fmt::Result {
         match *self {
             Call::Hypot { x, y } => write!(f, "hypot {x:x} {y:x}"),
@@ -32,6 +36,8 @@ impl<P: Copy + fmt::Radix> fmt::Display for Call<P> {
 
 /// The pattern in hexadecimal digits, and the count.
 impl<P: Copy + fmt::Radix> fmt::Display for Measured<P> {
+    ghost output = { measured_text P.HasDigits.word };
+
     fn fmt<W: fmt::Write>(&self, f: &mut fmt::Formatter<W>) -> fmt::Result {
         write!(f, "{:x}, count {}", self.pattern, self.count)
     }

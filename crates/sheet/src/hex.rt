@@ -8,8 +8,8 @@ pub struct NotADigit {
     pub place: usize,
 }
 
-/// The value of a hexadecimal digit, in either case. `char::to_digit` is no plainer: it goes by way of a
-/// `char` and a `u32`.
+/// The value of a hexadecimal digit, in either case.
+// No plainer: `char::from(byte).to_digit(16)` gives a `u32`, which its caller would have to bring back to a byte.
 pub fn digit_value(byte: u8) -> Option<u8>
     ensures { result ≡ hex_digit byte }
 {
@@ -32,9 +32,7 @@ pub fn number(place: usize, field: &[u8]) -> Result<u64, NotADigit>
 {
     let mut value = 0;
     for (i, byte) in field.iter().enumerate() {
-        let Some(digit) = digit_value(*byte) else {
-            return Err(NotADigit { place: place + i });
-        };
+        let digit = digit_value(*byte).ok_or(NotADigit { place: place + i })?;
         value = 16 * value + digit as u64;
     }
     Ok(value)

@@ -1,4 +1,5 @@
 pub mod Refusals
+pub mod Printed
 pub mod Reply
 pub mod Sealing
 pub mod Serving

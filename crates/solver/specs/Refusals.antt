@@ -1,5 +1,5 @@
 -- Refusals by their numbers, with what they tell.
-use Rattle.std.specs.Prelude.{Some, None}
+use Rattle.std.specs.Prelude.{ℕ, List, [], ◌++◌, Option, Some, None, codes, decimal}
 use Rattle.solver.specs.declared.refusal.SealRefusal.{SealRefusal}
 use Rattle.solver.specs.declared.refusal.SealRefusal.TheVariants.{Grade, Allowance}
 use Rattle.solver.specs.declared.refusal.CallRefusal.{CallRefusal}
@@ -12,3 +12,16 @@ seal_numbered (Allowance allowance) = record { number = 3; place = None; value =
 
 abbrev pub call_numbered : CallRefusal → Numbered
 call_numbered (TooFewSteps left) = record { number = 4; place = None; value = Some left }
+
+-- the place and the value, where they are told
+abbrev pub place_text : Option ℕ → List ℕ
+place_text None = []
+place_text (Some place) = codes " at " ++ decimal place
+
+abbrev pub value_text : Option ℕ → List ℕ
+value_text None = []
+value_text (Some value) = codes " (" ++ decimal value ++ codes ")"
+
+-- a refusal as it is printed
+abbrev pub numbered_text : Numbered → List ℕ
+numbered_text refusal = codes "refusal " ++ decimal refusal.number ++ place_text refusal.place ++ value_text refusal.value

@@ -2,6 +2,7 @@
 ghost use Rattle.forms.specs.Encoding.{Encoding, Lawful};
 ghost use Rattle.sources.specs.Source.{Source, Sound};
 ghost use Rattle.solver.specs.Law.{EveryLog, OneLog};
+ghost use Rattle.solver.specs.Printed.{request_text};
 
 use crate::refusal::CallRefusal;
 use lengths::call::{Call, Measured};
@@ -14,7 +15,10 @@ pub enum Request<P> {
     NewScan,
 }
 
+/// The call, or the words "new scan".
 impl<P: Copy + fmt::Radix> fmt::Display for Request<P> {
+    ghost output = { request_text P.HasDigits.word };
+
     fn fmt<W: fmt::Write>(&self, f: &mut fmt::Formatter<W>) -> fmt::Result {
         match self {
             Request::Length { call } => write!(f, "{call}"),
@@ -33,7 +37,7 @@ pub enum Done<P> {
 }
 
 /// An entry of a log: a request, and what was done for it or why it was refused.
-#[derive(Clone, Copy)]
+#[derive(Clone, Copy, PartialEq, Eq, Debug)]
 pub struct Entry<P> {
     pub request: Request<P>,
     pub reply: Result<Done<P>, CallRefusal>,

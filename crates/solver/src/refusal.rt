@@ -1,6 +1,6 @@
 //! Refusals, each a case with the values that it tells. A definition gives every case its number.
-ghost use Rattle.std.specs.Prelude.{◌≡◌};
-ghost use Rattle.solver.specs.Refusals.{seal_numbered, call_numbered};
+ghost use Rattle.std.specs.Prelude.{◌≡◌, Some};
+ghost use Rattle.solver.specs.Refusals.{seal_numbered, call_numbered, numbered_text};
 
 use std::fmt;
 
@@ -22,6 +22,7 @@ pub enum CallRefusal {
 
 /// A refusal as it is told to a reader: its number, with the place and the value, if any. Code goes by
 /// the cases and not by the number.
+// Made by the refusals' methods `numbered`: a `From` beside each would only double it.
 #[derive(Clone, Copy, PartialEq, Eq, Debug)]
 pub struct Numbered {
     pub number: u32,
@@ -31,6 +32,8 @@ pub struct Numbered {
 
 /// The number, then the place and the value where they are told.
 impl fmt::Display for Numbered {
+    ghost output = { λ refusal. Some (numbered_text refusal) };
+
     fn fmt<W: fmt::Write>(&self, f: &mut fmt::Formatter<W>) -> fmt::Result {
         write!(f, "refusal {}", self.number)?;
         if let Some(place) = self.place {

@@ -65,7 +65,14 @@ impl<F: NumberForm, R: RootSource> Sealed<F, R> {
         ensures after { self.new ≡ after_call F.NumberForm.encoding R.RootSource.meaning self.old call }
         ensures log { Logs F.NumberForm.encoding R.RootSource.meaning self.old (told_call call result) self.new }
     {
-        self.charged(call)
+        if !self.can_serve() {
+            return Err(CallRefusal::TooFewSteps {
+                steps_left: self.steps_left,
+            });
+        }
+        let length = self.length(call);
+        self.steps_left -= length.count;
+        Ok(length)
     }
 
     /// Starts a new scan, with the whole allowance. It is never refused.
@@ -73,7 +80,7 @@ impl<F: NumberForm, R: RootSource> Sealed<F, R> {
         ensures after { self.new ≡ after_scan self.old }
         ensures log { Logs F.NumberForm.encoding R.RootSource.meaning self.old told_scan self.new }
     {
-        self.renew();
+        self.steps_left = self.allowance;
     }
 
     /// The reply to any request.
@@ -106,38 +113,9 @@ impl<F: NumberForm, R: RootSource> Sealed<F, R> {
     // The length of a call, and its count.
     fn length(&self, call: Call<F::Pattern>) -> Measured<F::Pattern>
         requires { (R.RootSource.meaning self.now.source).grade ≤ 7 }
-        ensures { result ≡ length_of F.NumberForm.encoding (R.RootSource.meaning self.now.source) call }
-    {
-        length_of::<F, R>(&self.source, call)
-    }
-
-    // The same, with the bound of the count.
-    fn bounded_length(&self, call: Call<F::Pattern>) -> Measured<F::Pattern>
-        requires { (R.RootSource.meaning self.now.source).grade ≤ 7 }
         ensures value { result ≡ length_of F.NumberForm.encoding (R.RootSource.meaning self.now.source) call }
         ensures bound { result.count ≤ reserve_of (R.RootSource.meaning self.now.source) }
     {
-        self.length(call)
-    }
-
-    // A length call, charged to the steps left.
-    fn charged(&mut self, call: Call<F::Pattern>) -> Result<Measured<F::Pattern>, CallRefusal>
-        ensures value { result ≡ call_result F.NumberForm.encoding R.RootSource.meaning self.old call }
-        ensures after { self.new ≡ after_call F.NumberForm.encoding R.RootSource.meaning self.old call }
-    {
-        if !self.can_serve() {
-            return Err(CallRefusal::TooFewSteps {
-                steps_left: self.steps_left,
-            });
-        }
-        let length = self.bounded_length(call);
-        self.steps_left -= length.count;
-        Ok(length)
-    }
-
-    fn renew(&mut self)
-        ensures { self.new ≡ after_scan self.old }
-    {
-        self.steps_left = self.allowance;
+        length_of::<F, R>(&self.source, call)
     }
 }

@@ -35,12 +35,6 @@ impl<F: NumberForm, R: RootSource> Solver<F, R> {
         ensures value { result ≡ seal_result R.RootSource.meaning self allowance }
         ensures log { OpensLog F.NumberForm.encoding R.RootSource.meaning result }
     {
-        self.sealed(allowance)
-    }
-
-    fn sealed(self, allowance: u64) -> Result<Sealed<F, R>, SealRefused<F, R>>
-        ensures { result ≡ seal_result R.RootSource.meaning self allowance }
-    {
         let grade = self.source.grade();
         if grade > 7 {
             return Err(SealRefused {

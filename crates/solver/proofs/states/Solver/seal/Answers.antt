@@ -1,8 +1,8 @@
+use Rattle.std.proofs.Common.{Ok, rules}
+use Rattle.solver.specs.Sealing.{just_sealed}
 use Rattle.solver.proofs.Extensions.{opens_log}
 use Rattle.solver.proofs.states.Solver.seal.Goals as goal
 
-pub returns : goal.returns
-returns g c = record {
-  value = c.sealed.ensures;
-  log = opens_log g.F.NumberForm.encoding g.R.RootSource.meaning c.args.self c.args.allowance c.sealed.result c.sealed.ensures;
-}
+pub returns-clause-log : goal.returns-clause-log
+returns-clause-log g c =
+    opens_log g.F.NumberForm.encoding g.R.RootSource.meaning c.args.self c.args.allowance (Ok (just_sealed c.args.self c.args.allowance)) (search rules)
