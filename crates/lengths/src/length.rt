@@ -82,9 +82,10 @@ fn three_sides<F: NumberForm>(
 fn other_leg<F: NumberForm>(x: SideReading<F>, y: SideReading<F>) -> ControlFlow<F::Pattern, Posed>
     ensures { PosedUnlessPlain F.NumberForm.encoding (difference_of x.reading y.reading) result }
 {
-    break_on(special_leg(&x, &y))?;
     let hypotenuse = x.finite();
     let leg = y.finite().side;
+    let shorter = hypotenuse.side.is_shorter(leg);
+    break_on(special_leg::<F>(x.reading, y.reading, shorter))?;
     break_on(plain_leg(&hypotenuse, leg))?;
     ControlFlow::Continue(pose_leg(hypotenuse.side, leg))
 }

@@ -7,25 +7,29 @@ ghost use Rattle.triangle.specs.Answer.{special_pattern};
 ghost use Rattle.lengths.specs.Plain.{zero_pattern};
 ghost use Rattle.lengths.specs.Finite.{side_pattern};
 
-use crate::finite::{FiniteSide, SideReading};
+use crate::finite::FiniteSide;
 use exact::length::Magnitude;
 use forms::number_form::NumberForm;
+use forms::reading::Reading;
 use sides::side::Side;
 
 /// The pattern that answers for a leg where a side is no finite number, or the hypotenuse is the
 /// shorter side, and nothing else. A NaN comes first, then an infinite leg, then an infinite
 /// hypotenuse.
+// A flag, since the caller has both sides at hand, and a reading that is of no form has none.
 pub fn special_leg<F: NumberForm>(
-    hypotenuse: &SideReading<F>,
-    leg: &SideReading<F>,
+    hypotenuse: Reading,
+    leg: Reading,
+    shorter: bool,
 ) -> Option<F::Pattern>
-    ensures { result ≡ special_pattern F.NumberForm.encoding (leg_outcome hypotenuse.now.reading leg.now.reading) }
+    requires { shorter ≡ nat_lt (magnitude hypotenuse) (magnitude leg) }
+    ensures { result ≡ special_pattern F.NumberForm.encoding (leg_outcome hypotenuse leg) }
 {
-    if hypotenuse.reading.is_nan() || leg.reading.is_nan() || leg.reading.is_infinite() {
+    if hypotenuse.is_nan() || leg.is_nan() || leg.is_infinite() {
         Some(F::quiet_nan())
-    } else if hypotenuse.reading.is_infinite() {
+    } else if hypotenuse.is_infinite() {
         Some(F::plus_infinity())
-    } else if hypotenuse.finite().side.is_shorter(leg.finite().side) {
+    } else if shorter {
         Some(F::quiet_nan())
     } else {
         None
