@@ -170,6 +170,7 @@ impl<P: BinaryPattern> NumberForm for Binary<P> {
     }
 
     fn write(magnitude: Magnitude) -> Option<P> {
+        // Stays a branch: in a closure for `then` the proof of what `from_word` requires did not close.
         if Self::form().contains(magnitude) {
             let field = magnitude.exponent as u64 * P::IMPLICIT_BIT;
             Some(P::from_word(field + magnitude.significand))
