@@ -38,6 +38,7 @@ impl Operation {
 /// of counts. Columns that differ in length are refused, then more than 4,096 entries, before
 /// anything is written. At an entry that the solver refuses the column stops: earlier entries stand,
 /// and later ones keep their contents.
+// Four slices and no struct: they are lent by the caller, two to read and two to write, for this one call.
 pub fn length_column<F: NumberForm, R: RootSource>(
     solver: &mut Sealed<F, R>,
     operation: Operation,
