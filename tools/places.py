@@ -85,7 +85,28 @@ def impls(sources):
     rows = {t: v for t, v in of.items() if t in own and len(v) > 1}
     for trait, targets in sorted(rows.items()):
         print(f"  {trait}: {', '.join(targets)}")
-    print(f"point 2: {len(rows)} traits with several impls; and what `duplicates` lists (see the page)")
+    twins = shapes(sources)
+    for places in twins:
+        print(f"  alike: {', '.join(places)}")
+    print(f"point 2: {len(rows)} traits with several impls, {len(twins)} groups of functions of one shape")
+
+
+def shapes(sources):
+    """Functions whose lines differ in words and numbers only, five lines or more."""
+    of = collections.defaultdict(list)
+    for name, text in sources:
+        starts = [m.start() for m in re.finditer(r"^ *(pub(\(crate\))? )?(extern \"C\" )?fn \w+", text, re.M)]
+        for start in starts:
+            indent = re.match(r" *", text[start:]).group(0)
+            end = text.find(f"\n{indent}}}\n", start)
+            body = text[start : end if end >= 0 else len(text)]
+            lines = [line.strip() for line in body.split("\n") if not line.strip().startswith(("//", "requires", "ensures"))]
+            if len(lines) < 5:
+                continue
+            shape = re.sub(r"\w+", "w", " ".join(lines))
+            function = re.search(r"fn (\w+)", body).group(1)
+            of[shape].append(f"{name}::{function}")
+    return [places for places in of.values() if len(places) > 1]
 
 
 def functions(sources):

@@ -56,6 +56,7 @@ impl Solvers {
         ensures value { result ≡ line_outcome self.old (command_of line.now) }
         ensures after { self.new ≡ after_line self.old line.now }
     {
+        // An arm a form, since each has patterns of its own type.
         match parse(line)? {
             Command::Binary64(request) => request_outcome(&mut self.binary64, request),
             Command::Binary32(request) => request_outcome(&mut self.binary32, request),

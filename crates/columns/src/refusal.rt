@@ -26,6 +26,7 @@ pub enum ColumnRefusal {
 
 impl ColumnRefusal {
     /// The number of this refusal, and what it tells.
+    // No `From`, which is no plainer, as in `solver`.
     pub fn numbered(self) -> Numbered
         ensures { result ≡ column_numbered self }
     {

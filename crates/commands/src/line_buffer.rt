@@ -5,7 +5,7 @@ ghost use Rattle.std.specs.Prelude.{◌≤◌};
 pub(crate) const CAPACITY: usize = 81;
 
 /// The first 81 bytes of a line: what comes behind them is dropped.
-// Bytes and a length stay because `arrayvec::ArrayVec` is no `Copy`, and its `ArrayString` holds UTF-8 alone.
+// Fixed memory without a heap, and `Copy`, which `arrayvec::ArrayVec` is not; `ArrayString` holds UTF-8 alone.
 #[derive(Clone, Copy)]
 pub struct LineBuffer {
     pub(crate) bytes: [u8; CAPACITY],

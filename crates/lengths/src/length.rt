@@ -52,8 +52,8 @@ fn pose<F: NumberForm>(call: Call<F::Pattern>) -> ControlFlow<F::Pattern, Posed>
     }
 }
 
-// The root of the sum of two squares. Here and below sides are named one by one, since a leg takes its
-// two sides in another part than a sum.
+// The root of the sum of two squares. Here and below sides are named one by one, since those of a sum are
+// alike and those of a leg are the hypotenuse and the other leg.
 fn two_sides<F: NumberForm>(x: SideReading<F>, y: SideReading<F>) -> ControlFlow<F::Pattern, Posed>
     ensures { PosedUnlessPlain F.NumberForm.encoding (sum_of (x.reading ∷ y.reading ∷ [])) result }
 {

@@ -16,7 +16,7 @@ use sides::side::Side;
 /// The pattern that answers for a leg where a side is no finite number, or the hypotenuse is the
 /// shorter side, and nothing else. A NaN comes first, then an infinite leg, then an infinite
 /// hypotenuse.
-// A flag, since the caller has both sides at hand, and a reading that is of no form has none.
+// A flag and no type of both sides: such a type would ask that the readings are of the form.
 pub fn special_leg<F: NumberForm>(
     hypotenuse: Reading,
     leg: Reading,

@@ -4,7 +4,6 @@
 use forms::number_form::NumberForm;
 use forms::reading::Reading;
 use forms::thousandths::Thousandths;
-use sheet::line::trimmed;
 use sheet::pair::{Solved, solve_line};
 use std::io::{BufRead, BufReader};
 use std::{fmt, io};
@@ -48,16 +47,11 @@ impl fmt::Display for Told {
 }
 
 fn run(rt: &HostRuntime) -> io::Result<()> {
-    let mut input = BufReader::new(rt.alloc(), rt.stdin())?;
-    let mut line = Vec::new(rt.alloc());
+    let input = BufReader::new(rt.alloc(), rt.stdin())?;
     let mut solved_count: u64 = 0;
     let mut fault_count: u64 = 0;
-    for number in 1..u64::MAX {
-        line.clear();
-        if input.read_until(b'\n', &mut line)? == 0 {
-            break;
-        }
-        match solve_line(trimmed(&line)) {
+    for (number, line) in (1_u64..).zip(input.split(rt.alloc(), b'\n')) {
+        match solve_line(&line?) {
             Ok(solved) => {
                 solved_count = solved_count.saturating_add(1);
                 let told = Told(solved);

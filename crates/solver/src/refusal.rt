@@ -22,7 +22,8 @@ pub enum CallRefusal {
 
 /// A refusal as it is told to a reader: its number, with the place and the value, if any. Code goes by
 /// the cases and not by the number.
-// Made by the refusals' methods `numbered`: a `From` beside each would only double it.
+// Made by the refusals' public methods `numbered`, and by no `From`: `Numbered::from(refusal)` is no plainer
+// than `refusal.numbered()`.
 #[derive(Clone, Copy, PartialEq, Eq, Debug)]
 pub struct Numbered {
     pub number: u32,

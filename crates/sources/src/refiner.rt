@@ -104,7 +104,8 @@ fn step_grade(grade: u32) -> u32
     if grade <= 26 { 0 } else { 2 * grade - 53 }
 }
 
-// The guess after a number of steps from a proposal.
+// The guess after a number of steps from a proposal. Word and guess stay two numbers: the invariant of a
+// loop over a struct with a ghost field would name its fields by number.
 fn guess_after(word: u64, proposal: u64, steps: u32) -> u64
     requires word { 2 ^ 62 ≤ word }
     requires least { 2 ^ 53 ≤ proposal }

@@ -46,6 +46,7 @@ where
 
 // The answer to a call's line, or nothing where it asks for no length.
 fn answer(line: &[u8]) -> Option<LineBuffer> {
+    // An arm a form, since each has patterns of its own type.
     match parse(line).ok()? {
         Command::Binary64(request) => length_line::<Binary64>(request),
         Command::Binary32(request) => length_line::<Binary32>(request),
@@ -122,6 +123,7 @@ fn run(rt: &HostRuntime) -> io::Result<()> {
     let mut known = Vec::new(rt.alloc());
     let mut section = Tally::default();
     let mut total = Tally::default();
+    // By `read_until` and no `split`: a call's known answer is read inside the loop, from the line behind it.
     for _line in 0..u64::MAX {
         call.clear();
         known.clear();
