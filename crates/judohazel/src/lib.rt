@@ -72,3 +72,18 @@ fn pattern<F: NumberForm>(call: Call<F::Pattern>) -> F::Pattern
 {
     length_of::<F, FloatSource>(&FloatSource, call).pattern
 }
+
+#[cfg(test)]
+mod tests {
+    use super::*;
+
+    // By position: which argument is the hypotenuse, no contract can say.
+    #[test]
+    fn hypotenuse_first(rt: HostRuntime) {
+        assert_eq!(rt;
+            f_cathetus(0x4014_0000_0000_0000, 0x4010_0000_0000_0000),
+            0x4008_0000_0000_0000
+        );
+        assert_eq!(rt; f_cathetusf(0x40a0_0000, 0x4080_0000), 0x4040_0000);
+    }
+}

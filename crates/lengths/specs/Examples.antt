@@ -20,7 +20,7 @@ pub record WorkedExamples : Type 0 where
   pub subnormals : Gives binary64 (Hypot 1 1) 1 0
   -- 1 and 1 give the root of two
   pub root_two : Gives binary64 (Hypot 0x3ff0_0000_0000_0000 0x3ff0_0000_0000_0000) 0x3ff6_a09e_667f_3bcd 0
-  -- a subnormal and a far smaller one give the smallest normal number, by a carry
+  -- a subnormal and a much smaller one give the smallest normal number, by a carry
   pub to_normal : Gives binary64 (Hypot 0x000f_ffff_ffff_ffff 0x0000_0000_0400_0000) 0x0010_0000_0000_0000 1
   -- a root just above the largest value still rounds to it, and one a little larger is infinite
   pub largest : Gives binary64 (Hypot 0x7fef_ffff_ffff_ffff 0x7e40_0000_0000_0000) 0x7fef_ffff_ffff_ffff 1
@@ -63,6 +63,18 @@ pub record WorkedExamples : Type 0 where
   pub leg_of_infinity : Gives binary64 (Cathetus 0xfff0_0000_0000_0000 0x3ff0_0000_0000_0000) 0x7ff0_0000_0000_0000 0
   -- a NaN outweighs an infinity here
   pub leg_nan : Gives binary64 (Cathetus 0xfff0_0000_0000_0000 0x7ff8_0000_0000_0000) 0x7ff8_0000_0000_0000 0
+  -- so does a signalling NaN, on either side, and an infinite leg outweighs an infinite hypotenuse
+  pub leg_signalling : Gives binary64 (Cathetus 0x4014_0000_0000_0000 0x7ff0_0000_0000_0001) 0x7ff8_0000_0000_0000 0
+  pub leg_of_signalling : Gives binary64 (Cathetus 0xfff0_0000_0000_0001 0) 0x7ff8_0000_0000_0000 0
+  pub leg_of_nan : Gives binary64 (Cathetus 0x7ff8_0000_0000_0000 0) 0x7ff8_0000_0000_0000 0
+  pub both_infinite : Gives binary64 (Cathetus 0x7ff0_0000_0000_0000 0x7ff0_0000_0000_0000) 0x7ff8_0000_0000_0000 0
+  pub leg_under_range : Gives thousandths (Cathetus 0x8000_0001 0x7fff_ffff) 0x8000_0000 0
+  pub under_range_leg : Gives thousandths (Cathetus 0x8000_0001 5) 0x7fff_ffff 0
+  -- exactly 2 ^ -27 of the largest is not far, and a little less is
+  pub not_yet_far : Gives binary64 (Hypot 0x3ffa_46d6_7433_333c 0x3e4a_46d6_7433_333c) 0x3ffa_46d6_7433_333c 1
+  pub just_far : Gives binary64 (Hypot 0x3ffa_46d6_7433_333d 0x3e4a_46d6_7433_333c) 0x3ffa_46d6_7433_333d 0
+  -- the squares are added largest first, in whatever order the sides come: added as (x * x + z * z) + y * y they give another count
+  pub added_in_order : Gives binary64 (ThreeSides 0x3fde_18cc_1c53_ea1c 0x3ff3_bfd1_d262_2c48 0x3fef_dc52_8ede_5c0e) 0x3ffa_772c_051a_9a42 0
   -- binary32: 52,613,341,184 and 14,680,063 give 52,613,345,280
   pub not_first_side : Gives binary32 (Hypot 0x5143_fffe 0x4b5f_ffff) 0x5143_ffff 0
   -- a hypotenuse of 52,613,357,568 and a leg of 14,680,065 give 52,613,353,472

@@ -1,5 +1,6 @@
 //! Refusals, each a case with the values that it tells. A definition gives every case its number.
 ghost use Rattle.std.specs.Prelude.{◌≡◌, Some};
+ghost use Rattle.solver.specs.Sealing.{SealingLimits};
 ghost use Rattle.solver.specs.Refusals.{seal_numbered, call_numbered, numbered_text};
 
 use std::fmt;
@@ -81,3 +82,8 @@ impl CallRefusal {
         }
     }
 }
+
+/// Sealings reach to their limits of grade and allowance, and not past them; the grade is looked at first.
+pub fn sealing_limits()
+    ensures { SealingLimits }
+{}
