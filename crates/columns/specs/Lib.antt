@@ -1,3 +1,4 @@
 pub mod Refusals
 pub mod Column
 pub mod ColumnLog
+pub mod Examples

@@ -4,6 +4,7 @@ ghost use Rattle.solver.specs.Serving.{call_result, after_call};
 ghost use Rattle.solver.specs.Log.{Logs, told_call};
 ghost use Rattle.columns.specs.Column.{call_of, at_place, entries, checked_shape, column_of, left_by};
 ghost use Rattle.columns.specs.ColumnLog.{told_column};
+ghost use Rattle.columns.specs.Examples.{WorkedColumns};
 
 use crate::refusal::{ColumnRefusal, EntryRefused};
 use forms::number_form::NumberForm;
@@ -106,3 +107,9 @@ fn measured_at<F: NumberForm, R: RootSource>(
         .measure(call)
         .map_err(|refusal| EntryRefused { place, refusal })
 }
+
+/// The calls of worked columns have the lengths that they should have: in a cathetus column the hypotenuse comes
+/// first.
+pub fn worked_columns()
+    ensures { WorkedColumns }
+{}

@@ -63,7 +63,7 @@ pub record WorkedExamples : Type 0 where
   pub leg_of_infinity : Gives binary64 (Cathetus 0xfff0_0000_0000_0000 0x3ff0_0000_0000_0000) 0x7ff0_0000_0000_0000 0
   -- a NaN outweighs an infinity here
   pub leg_nan : Gives binary64 (Cathetus 0xfff0_0000_0000_0000 0x7ff8_0000_0000_0000) 0x7ff8_0000_0000_0000 0
-  -- so does a signalling NaN, on either side, and an infinite leg outweighs an infinite hypotenuse
+  -- a NaN of either kind on either side gives the NaN, and so does an infinite leg, beside an infinite hypotenuse too
   pub leg_signalling : Gives binary64 (Cathetus 0x4014_0000_0000_0000 0x7ff0_0000_0000_0001) 0x7ff8_0000_0000_0000 0
   pub leg_of_signalling : Gives binary64 (Cathetus 0xfff0_0000_0000_0001 0) 0x7ff8_0000_0000_0000 0
   pub leg_of_nan : Gives binary64 (Cathetus 0x7ff8_0000_0000_0000 0) 0x7ff8_0000_0000_0000 0
