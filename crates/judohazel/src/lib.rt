@@ -65,7 +65,8 @@ pub extern "C" fn f_hypot3f(x: u32, y: u32, z: u32) -> u32
     pattern::<Binary32>(Call::ThreeSides { x, y, z })
 }
 
-// The pattern of a call, in any form.
+// The pattern of a call, in any form. Inlined, so that each name makes only its own kind of call.
+#[inline(always)]
 fn pattern<F: NumberForm>(call: Call<F::Pattern>) -> F::Pattern
     ensures value { result ≡ (length_of F.NumberForm.encoding exact_source call).pattern }
     ensures nearest { AnswersCall F.NumberForm.encoding call result }

@@ -1,6 +1,9 @@
 //! The length of a call: plain cases first, then the root of the exact radicand.
 //!
 //! A hypotenuse over two sides is the resultant of these and a third side of no length.
+//!
+//! All that leads to a posed root is inlined: so a call whose kind is known does no work for the other kinds,
+//! and one in a plain case has no place for a posed root to clear and to copy.
 ghost use Rattle.std.specs.Prelude.{◌≡◌, ◌≤◌, [], ◌∷◌, Some, None};
 ghost use Rattle.std.specs.ControlFlow.{MatchControlFlow};
 ghost use Rattle.lengths.specs.Asked.{sum_of, difference_of, asked};
@@ -9,7 +12,7 @@ ghost use Rattle.lengths.specs.Posed.{PosedUnlessPlain};
 
 use crate::call::{Call, Measured};
 use crate::finite::{FiniteSide, SideReading};
-use crate::plain::{plain_leg, plain_sum, special_leg};
+use crate::plain::{plain_leg, plain_sum, special_leg, special_sum};
 use crate::root::root_length;
 use forms::number_form::NumberForm;
 use sides::order::descending;
@@ -18,10 +21,10 @@ use sides::posed::Posed;
 use sources::root_source::RootSource;
 use std::marker::PhantomData;
 use std::ops::ControlFlow;
-use triangle::answer::special_pattern;
 
 /// The pattern and the count of a call, in any form, with any source of a grade of at most 7. The bound
 /// is for inner callers; every pattern is accepted.
+#[inline(always)]
 pub fn length_of<F: NumberForm, R: RootSource>(
     source: &R,
     call: Call<F::Pattern>,
@@ -36,6 +39,7 @@ pub fn length_of<F: NumberForm, R: RootSource>(
 }
 
 // The pattern that answers for a call in a plain case, and else the root that is to be found.
+#[inline(always)]
 fn pose<F: NumberForm>(call: Call<F::Pattern>) -> ControlFlow<F::Pattern, Posed>
     ensures { PosedUnlessPlain F.NumberForm.encoding (asked F.NumberForm.encoding call) result }
 {
@@ -54,6 +58,7 @@ fn pose<F: NumberForm>(call: Call<F::Pattern>) -> ControlFlow<F::Pattern, Posed>
 
 // The root of the sum of two squares. Here and below sides are named one by one, since those of a sum are
 // alike and those of a leg are the hypotenuse and the other leg.
+#[inline(always)]
 fn two_sides<F: NumberForm>(x: SideReading<F>, y: SideReading<F>) -> ControlFlow<F::Pattern, Posed>
     ensures { PosedUnlessPlain F.NumberForm.encoding (sum_of (x.reading ∷ y.reading ∷ [])) result }
 {
@@ -61,6 +66,7 @@ fn two_sides<F: NumberForm>(x: SideReading<F>, y: SideReading<F>) -> ControlFlow
 }
 
 // The root of the sum of three squares.
+#[inline(always)]
 fn three_sides<F: NumberForm>(
     x: SideReading<F>,
     y: SideReading<F>,
@@ -68,7 +74,7 @@ fn three_sides<F: NumberForm>(
 ) -> ControlFlow<F::Pattern, Posed>
     ensures { PosedUnlessPlain F.NumberForm.encoding (sum_of (x.reading ∷ y.reading ∷ z.reading ∷ [])) result }
 {
-    break_on(special_pattern::<F>(&[x.reading, y.reading, z.reading]))?;
+    break_on(special_sum::<F>(x.reading, y.reading, z.reading))?;
     let sides = descending(x.finite().side, y.finite().side, z.finite().side);
     let longest = FiniteSide::<F> {
         side: sides.first,
@@ -79,6 +85,7 @@ fn three_sides<F: NumberForm>(
 }
 
 // The root of the difference of two squares.
+#[inline(always)]
 fn other_leg<F: NumberForm>(x: SideReading<F>, y: SideReading<F>) -> ControlFlow<F::Pattern, Posed>
     ensures { PosedUnlessPlain F.NumberForm.encoding (difference_of x.reading y.reading) result }
 {
@@ -91,6 +98,7 @@ fn other_leg<F: NumberForm>(x: SideReading<F>, y: SideReading<F>) -> ControlFlow
 }
 
 // Breaks off with an answer, and goes on without one.
+#[inline(always)]
 fn break_on<P>(answer: Option<P>) -> ControlFlow<P, ()>
     ensures { MatchControlFlow result (λ _. answer ≡ None) (λ pattern. answer ≡ Some pattern) }
 {

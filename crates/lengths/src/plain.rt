@@ -1,5 +1,5 @@
 //! The plain cases, in which no root has to be found.
-ghost use Rattle.std.specs.Prelude.{◌≡◌, ◌||◌, if◌then◌else◌, Some, None, nat_eq, nat_le, nat_lt};
+ghost use Rattle.std.specs.Prelude.{◌≡◌, ◌||◌, [], ◌∷◌, if◌then◌else◌, Some, None, nat_eq, nat_le, nat_lt};
 ghost use Rattle.sides.specs.Order.{side_units, is_far};
 ghost use Rattle.forms.specs.Kinds.{is_signalling, is_infinite, is_quiet, is_nan};
 ghost use Rattle.triangle.specs.Outcome.{magnitude, hypot_outcome, leg_outcome};
@@ -12,6 +12,15 @@ use exact::length::Magnitude;
 use forms::number_form::NumberForm;
 use forms::reading::Reading;
 use sides::side::Side;
+use triangle::answer::special_pattern;
+
+/// The pattern that answers for a sum of squares where a side is no finite number, and nothing where
+/// all are finite.
+pub fn special_sum<F: NumberForm>(x: Reading, y: Reading, z: Reading) -> Option<F::Pattern>
+    ensures { result ≡ special_pattern F.NumberForm.encoding (hypot_outcome (x ∷ y ∷ z ∷ [])) }
+{
+    special_pattern::<F>(&[x, y, z])
+}
 
 /// The pattern that answers for a leg where a side is no finite number, or the hypotenuse is the
 /// shorter side, and nothing else. A NaN comes first, then an infinite leg, then an infinite

@@ -101,6 +101,21 @@ module _ (u m a v n b : ℕ) (p : AtBits u m a) (q : AtBits v n b) where
           let d : a ≡ b → ⊥ = eqb-false a b e in
           sym (le-ltb u v (le_of_lt (fewer_bits v n b u m a q p (lt_unless b a (λ (g : a ≤ b). d (le_antisymm g h))))))
 
+-- the same by the first numbers, and by the second where those are equal
+pub by_parts : (a m b n : ℕ) → cond (eqb a b) (ltb m n) (ltb a b) ≡ pair_lt a m b n
+by_parts a m b n = go (ltb a b) refl (eqb a b) refl
+  where
+    second : (s t : Bool) → s ≡ is_lt (cond s Less (cond t Equal Greater))
+    second true t = refl
+    second false true = refl
+    second false false = refl
+
+    go : (s : Bool) → ltb a b ≡ s → (t : Bool) → eqb a b ≡ t → cond t (ltb m n) s ≡ is_some_and is_lt (partial_ordering_then (Some (cond s Less (cond t Equal Greater))) (Some (nat_cmp m n)))
+    go true s true e = absurd (omega (arith, ltb-true a b s, eqb-true a b e))
+    go true s false e = refl
+    go false s true e = second (ltb m n) (eqb m n)
+    go false s false e = refl
+
 -- a magnitude times 2 ^ 27 has 27 bits more
 pub at_bits_more : (u m b : ℕ) → AtBits u m b → 0 < u → AtBits (u * 2 ^ 27) m (b + 27)
 at_bits_more u m b p h =

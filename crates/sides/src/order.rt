@@ -2,7 +2,7 @@
 //!
 //! With their significands brought to full length, sides are in the order of their bits, and at equal
 //! bits in the order of their significands.
-ghost use Rattle.std.specs.Prelude.{◌≡◌, [], ◌∷◌, ◌⊎◌, nat_lt, ◌==◌};
+ghost use Rattle.std.specs.Prelude.{◌≡◌, cond, [], ◌∷◌, ◌⊎◌, nat_lt, ◌==◌, eqb, ltb};
 ghost use Rattle.sides.specs.Order.{side_units, descending, is_far};
 ghost use Rattle.sides.specs.Listed.{ordered_units};
 
@@ -19,20 +19,22 @@ impl Side {
     }
 
     /// Whether this side is shorter than another.
+    #[tactic(auto, using(crate::proofs::Orders::shorter_by_parts))]
     pub fn is_shorter(self, other: Side) -> bool
         ensures { result ≡ nat_lt (side_units self) (side_units other) }
     {
-        self.key() < other.key()
+        is_lower(self.key(), other.key())
     }
 
     /// Whether this side is far beside the largest one: less than 2^-27 of it.
+    #[tactic(auto, using(crate::proofs::Orders::far_by_parts))]
     pub fn is_far(self, largest: Side) -> bool
         ensures { result ≡ is_far (side_units largest) (side_units self) }
     {
         if self.is_zero() {
             return !largest.is_zero();
         }
-        (self.bits + 27, self.significand) < largest.key()
+        is_lower((self.bits + 27, self.significand), largest.key())
     }
 
     // What sides are in the order of.
@@ -41,6 +43,13 @@ impl Side {
     {
         (self.bits, self.significand)
     }
+}
+
+// Whether the first of two numbers is the lower, by bits and then by significands.
+fn is_lower(number: (u32, u64), other: (u32, u64)) -> bool
+    ensures { result ≡ cond (eqb number.0 other.0) (ltb number.1 other.1) (ltb number.0 other.0) }
+{
+    number < other
 }
 
 /// Three sides in descending order.

@@ -16,7 +16,7 @@ by_longest g c s =
     let encoding = g.F.NumberForm.encoding in
     let o = c.descending-sides in
     let side = one_value encoding.form o.result.first.magnitude _ _ _ o.ensures.first c.finite.result.value c.finite-2.result.value c.finite-3.result.value in
-    three_plain encoding g.met.F.NumberForm.lawful _ _ _ o.result c.args.x.of_form c.args.y.of_form c.args.z.of_form side s (sym c.special_pattern.ensures ∙ c.in_ok-break_on.ensures) ∙ sym c.plain_sum.ensures
+    three_plain encoding g.met.F.NumberForm.lawful _ _ _ o.result c.args.x.of_form c.args.y.of_form c.args.z.of_form side s (sym c.special_sum.ensures ∙ c.in_ok-break_on.ensures) ∙ sym c.plain_sum.ensures
 
 pub returns-in_err-break_on-2 : goal.returns-in_err-break_on-2
 returns-in_err-break_on-2 g c =
