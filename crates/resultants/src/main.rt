@@ -4,6 +4,7 @@
 use forms::number_form::NumberForm;
 use forms::reading::Reading;
 use forms::thousandths::Thousandths;
+use sheet::line::trimmed;
 use sheet::pair::{Solved, solve_line};
 use std::io::{BufRead, BufReader};
 use std::{fmt, io};
@@ -47,11 +48,17 @@ impl fmt::Display for Told {
 }
 
 fn run(rt: &HostRuntime) -> io::Result<()> {
-    let input = BufReader::new(rt.alloc(), rt.stdin())?;
+    let mut input = BufReader::new(rt.alloc(), rt.stdin())?;
+    // One buffer serves for every line: `split` makes a new one for each.
+    let mut line = Vec::new(rt.alloc());
     let mut solved_count: u64 = 0;
     let mut fault_count: u64 = 0;
-    for (number, line) in (1_u64..).zip(input.split(rt.alloc(), b'\n')) {
-        match solve_line(&line?) {
+    for number in 1..u64::MAX {
+        line.clear();
+        if input.read_until(b'\n', &mut line)? == 0 {
+            break;
+        }
+        match solve_line(trimmed(&line)) {
             Ok(solved) => {
                 solved_count = solved_count.saturating_add(1);
                 let told = Told(solved);
