@@ -3,7 +3,7 @@ ghost use Rattle.std.specs.Prelude.{◌≡◌};
 ghost use Rattle.commands.specs.declared.fault.TextFault.TheVariants.{Digit as DigitFault, Call as CallFault};
 ghost use Rattle.commands.specs.Buffer.{kept};
 ghost use Rattle.commands.specs.Fault.{fault_layer, fault_number, fault_place, layer_word};
-ghost use Rattle.commands.specs.Reply.{fault_line};
+ghost use Rattle.commands.specs.Reply.{fault_line, refusal_line};
 
 use crate::line_buffer::LineBuffer;
 use sheet::hex::NotADigit;
@@ -106,14 +106,21 @@ impl TextFault {
     pub fn line(self) -> LineBuffer
         ensures { kept result ≡ fault_line self }
     {
-        let mut line = LineBuffer::new();
-        line.push_bytes(b"! ");
-        line.push_decimal(self.number() as u64);
-        line.push(b' ');
-        line.push_bytes(self.layer().word());
-        line.push(b' ');
-        line.push_decimal(self.place());
-        line.push(b'\n');
-        line
+        refusal_line(self.number(), self.layer(), self.place())
     }
+}
+
+/// A refusal's line, with the byte 10 that ends it.
+pub fn refusal_line(number: u32, layer: Layer, place: u64) -> LineBuffer
+    ensures { kept result ≡ refusal_line number layer place }
+{
+    let mut line = LineBuffer::new();
+    line.push_bytes(b"! ");
+    line.push_decimal(number as u64);
+    line.push(b' ');
+    line.push_bytes(layer.word());
+    line.push(b' ');
+    line.push_decimal(place);
+    line.push(b'\n');
+    line
 }

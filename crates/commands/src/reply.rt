@@ -62,7 +62,7 @@ fn new_scan_line() -> LineBuffer
 #[cfg(test)]
 mod tests {
     use super::*;
-    use crate::fault::TextFault;
+    use crate::fault::{Layer, TextFault, refusal_line};
     use solver::refusal::CallRefusal;
 
     #[test]
@@ -84,5 +84,7 @@ mod tests {
         assert!(rt; fault.line().as_slice() == b"! 7 text 80\n".as_slice());
         let refused = TextFault::Call(CallRefusal::TooFewSteps { steps_left: 3 });
         assert!(rt; refused.line().as_slice() == b"! 4 solver 3\n".as_slice());
+        let line = refusal_line(4, Layer::Solver, 3);
+        assert!(rt; line.as_slice() == b"! 4 solver 3\n".as_slice());
     }
 }
