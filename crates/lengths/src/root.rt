@@ -2,6 +2,7 @@
 //! and the pattern of that.
 ghost use Rattle.std.specs.Prelude.{◌≡◌, ℕ, ◌^◌, ◌≤◌, Float};
 ghost use Rattle.sides.specs.Poses.{Poses};
+ghost use Rattle.walk.specs.Rounded.{after_carry};
 ghost use Rattle.lengths.specs.LengthOf.{root_length};
 ghost use Rattle.lengths.specs.Posed.{PosedRoot};
 
@@ -24,7 +25,7 @@ pub fn root_length<F: NumberForm, R: RootSource>(source: &R, posed: Posed) -> Me
     let unit = 24 + posed.head.places;
     let least = unit.saturating_sub(posed.bits);
     let rounded = rounded_root(posed.radicand, proposal, F::form().precision, least);
-    let exponent = posed.bits + rounded.dropped - unit + u32::from(rounded.carried);
+    let exponent = carry(posed.bits + rounded.dropped - unit, rounded.carried);
     let magnitude = Magnitude {
         significand: rounded.significand,
         exponent,
@@ -33,6 +34,14 @@ pub fn root_length<F: NumberForm, R: RootSource>(source: &R, posed: Posed) -> Me
         pattern: written_or_infinity::<F>(magnitude),
         count: rounded.count,
     }
+}
+
+// The exponent, one more after a carry.
+fn carry(exponent: u32, carried: bool) -> u32
+    requires { exponent ≤ 5000 }
+    ensures { result ≡ after_carry carried exponent }
+{
+    exponent + u32::from(carried)
 }
 
 // The source's proposal for a head word, which is never below 2^62.

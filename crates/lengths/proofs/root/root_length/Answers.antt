@@ -1,5 +1,4 @@
-use Rattle.std.proofs.Common.{◌≡◌, ℕ, ◌+◌, ◌-◌, ◌*◌, ◌^◌, ◌<◌, ◌≤◌, Bool, true, false, sym, refl, ap, ◌∙◌, subst, arith}
-use Rattle.std.specs.Int.{from_bool}
+use Rattle.std.proofs.Common.{◌≡◌, ℕ, ◌+◌, ◌-◌, ◌*◌, ◌^◌, ◌<◌, ◌≤◌, sym, refl, ap, ◌∙◌, subst, arith}
 use lib.Ieee.{size}
 use Rattle.exact.specs.declared.form.Form.{Form}
 use Rattle.exact.specs.Length.{Length}
@@ -45,20 +44,11 @@ drops g c w =
       some = dropped_some p.radicand _ w short _ _ _ d precision;
     }
 
-pub overflow_add-exponent : goal.overflow_add-exponent
-overflow_add-exponent g c = omega (arith, (drops g (goal.at.overflow_add-exponent g c).After-rounded_root-rounded (start g (goal.at.overflow_add-exponent g c).After-proposal_for-proposal)).most, c.requires.posed.3.few_bits)
+pub overflow_add-posed : goal.overflow_add-posed
+overflow_add-posed g c = omega (arith, (drops g (goal.at.overflow_add-posed g c).After-rounded_root-rounded (start g (goal.at.overflow_add-posed g c).After-proposal_for-proposal)).most, c.requires.posed.3.few_bits)
 
-carried_most : (carried : Bool) → from_bool carried ≤ 1
-carried_most true = omega arith
-carried_most false = omega arith
-
-pub overflow_add-exponent-2 : goal.overflow_add-exponent-2
-overflow_add-exponent-2 g c =
-    omega (arith, (drops g (goal.at.overflow_add-exponent-2 g c).After-rounded_root-rounded (start g (goal.at.overflow_add-exponent-2 g c).After-proposal_for-proposal)).most, c.requires.posed.3.few_bits, c.from.ensures, carried_most c.rounded_root-rounded.result.carried)
-
-carry_is : (carried : Bool) (e : ℕ) → after_carry carried e ≡ e + from_bool carried
-carry_is true e = refl
-carry_is false e = omega arith
+pub carry-exponent-requires : goal.carry-exponent-requires
+carry-exponent-requires g c = omega (arith, (drops g (goal.at.carry-exponent-requires g c).After-rounded_root-rounded (start g (goal.at.carry-exponent-requires g c).After-proposal_for-proposal)).most, c.requires.posed.3.few_bits)
 
 pub returns : goal.returns
 returns g c h n largest poses =
@@ -76,12 +66,11 @@ returns g c h n largest poses =
     subst (Scaled n e (n * 4 ^ (23 + p.head.places)) (4 ^ (size largest - 1)) dropped) (sym c.saturating_sub-least.ensures)
     (scaled_as h n largest p poses dropped e few.enough refl (λ z. omega (arith, few.some, few.enough))) in
     let long : Length c.form.result.precision n out.significand (after_carry out.carried e) = c.rounded_root-rounded.ensures.length n e _ _ poses.stands scaled in
-    let exponent : after_carry out.carried e ≡ e + c.from.result = carry_is out.carried e ∙ ap (λ (x : ℕ). e + x) (sym c.from.ensures) in
-    let length : Length encoding.form.precision n out.significand (e + c.from.result) =
-    subst (Length encoding.form.precision n out.significand) exponent
+    let length : Length encoding.form.precision n out.significand c.carry-exponent.result =
+    subst (Length encoding.form.precision n out.significand) (sym c.carry-exponent.ensures)
     (subst (λ (x : Form). Length x.precision n out.significand (after_carry out.carried e)) c.form.ensures long) in
     let pattern : c.written_or_infinity.result ≡ root_pattern encoding n =
-    writes encoding law n out.significand (e + c.from.result) length c.written_or_infinity.result c.written_or_infinity.ensures.value c.written_or_infinity.ensures.beyond in
+    writes encoding law n out.significand c.carry-exponent.result length c.written_or_infinity.result c.written_or_infinity.ensures.value c.written_or_infinity.ensures.beyond in
     let count : out.count ≡ walk_count source h n largest =
     c.rounded_root-rounded.ensures.count ∙ ap (λ (x : ℕ). distance x (isqrt (radicand_floor p.radicand))) c.proposal_for-proposal.ensures
     ∙ count_is h n largest p poses source (g.met.R.RootSource.sound value) in
