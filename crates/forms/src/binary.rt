@@ -133,7 +133,8 @@ impl BinaryPattern for u32 {
 
 /// The binary interchange format of a pattern type.
 pub struct Binary<P> {
-    pattern: PhantomData<P>,
+    // Public, so that any crate can make a value and take it apart.
+    pub pattern: PhantomData<P>,
 }
 
 pub type Binary64 = Binary<u64>;
