@@ -1,5 +1,5 @@
 //! The binary interchange formats of 64 and 32 bits.
-ghost use Rattle.std.specs.Prelude.{◌≡◌, ℕ, ◌+◌, ◌^◌, ◌<◌, ℤ, negsuc};
+ghost use Rattle.std.specs.Prelude.{◌≡◌, ℕ, ◌+◌, ◌/◌, ◌%◌, ◌^◌, ◌<◌, ℤ, negsuc, nat_le};
 ghost use Rattle.forms.specs.Encoding.{Lawful};
 ghost use Rattle.forms.specs.Binary.{binary, read_fields, FieldsAre};
 ghost use Rattle.std.proofs.Common.{rules};
@@ -158,16 +158,8 @@ impl<P: BinaryPattern> NumberForm for Binary<P> {
     }
 
     fn read(pattern: P) -> Reading {
-        let word = pattern.to_word();
-        let ones = P::EXPONENT_ONES;
-        let implicit_bit = P::IMPLICIT_BIT;
-        let exponents = ones as u64 + 1;
-        let fields = Fields {
-            negative: word >= exponents * implicit_bit,
-            exponent: (word / implicit_bit % exponents) as u32,
-            fraction: word % implicit_bit,
-        };
-        fields.read(ones, implicit_bit)
+        let fields = Fields::of::<P>(pattern.to_word());
+        fields.read(P::EXPONENT_ONES, P::IMPLICIT_BIT)
     }
 
     fn write(magnitude: Magnitude) -> Option<P> {
@@ -199,6 +191,22 @@ struct Fields {
 }
 
 impl Fields {
+    // The parts of a word in the format of `P`.
+    fn of<P: BinaryPattern>(word: u64) -> Fields
+        ensures negative { result.negative ≡ nat_le (2 ^ (P.BinaryPattern.exponent_bits + P.BinaryPattern.fraction_bits)) word }
+        ensures exponent { result.exponent ≡ word / 2 ^ P.BinaryPattern.fraction_bits % 2 ^ P.BinaryPattern.exponent_bits }
+        ensures fraction { result.fraction ≡ word % 2 ^ P.BinaryPattern.fraction_bits }
+    {
+        let ones = P::EXPONENT_ONES;
+        let implicit_bit = P::IMPLICIT_BIT;
+        let exponents = ones as u64 + 1;
+        Fields {
+            negative: word >= exponents * implicit_bit,
+            exponent: (word / implicit_bit % exponents) as u32,
+            fraction: word % implicit_bit,
+        }
+    }
+
     // What the fields mean, `ones` being an exponent field of ones and `implicit_bit` the bit above
     // the fraction field.
     fn read(self, ones: u32, implicit_bit: u64) -> Reading
