@@ -110,7 +110,8 @@ impl TextFault {
     }
 }
 
-/// A refusal's line, with the byte 10 that ends it.
+/// The line of a refusal by its number and layer, with the place or number that it tells, and the byte
+/// 10 that ends it.
 pub fn refusal_line(number: u32, layer: Layer, place: u64) -> LineBuffer
     ensures { kept result ≡ refusal_line number layer place }
 {

@@ -2,7 +2,7 @@
 //!
 //! A hypotenuse over two sides is the resultant of these and a third side of no length.
 //!
-//! All that leads to a posed root is inlined: so a call whose kind is known does no work for the other kinds,
+//! All functions here are inlined: so a call whose kind is known does no work for the other kinds,
 //! and one in a plain case has no place for a posed root to clear and to copy.
 ghost use Rattle.std.specs.Prelude.{◌≡◌, ◌≤◌, [], ◌∷◌, Some, None};
 ghost use Rattle.std.specs.ControlFlow.{MatchControlFlow};

@@ -15,7 +15,7 @@ use sides::side::Side;
 use triangle::answer::special_pattern;
 
 /// The pattern that answers for a sum of squares where a side is no finite number, and nothing where
-/// all are finite.
+/// all are finite. A signalling NaN comes first, then an infinity, then a quiet NaN.
 pub fn special_sum<F: NumberForm>(x: Reading, y: Reading, z: Reading) -> Option<F::Pattern>
     ensures { result ≡ special_pattern F.NumberForm.encoding (hypot_outcome (x ∷ y ∷ z ∷ [])) }
 {
